@@ -1,0 +1,25 @@
+-- `reduction::rounding::scale_of` meets its contract. Assumes nothing.
+use native.Mathlib.Omega.{arith}
+use Rattle.reduction.proofs.Fits.{fit-root}
+use borrow.Author.Needs.{needs}
+use Rattle.reduction.proofs.rounding.scale_of.Statement.{statement}
+use Rattle.reduction.proofs.rounding.scale_of.Tie as tie
+
+enum-told : tie.Need-enum-told
+enum-told c = search needs
+
+enum-known-share : tie.Need-enum-known-share
+enum-known-share c = search needs
+
+root-scale-requires : tie.Need-root-scale-requires
+root-scale-requires c κs = omega (arith, fit-root (c .before .before .before .pre) (c .before .share .given .1))
+
+returns : tie.Need-returns
+returns c = search needs
+
+returns-2 : tie.Need-returns-2
+returns-2 c = search needs
+
+pub scale-of-spec : {M : Type 1} → statement M
+scale-of-spec =
+    tie.close (tie.spec enum-told enum-known-share root-scale-requires returns returns-2)

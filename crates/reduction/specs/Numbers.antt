@@ -1,0 +1,18 @@
+-- Limits, squares, and the least number that passes a test.
+-- Assumes nothing.
+use mathlib.Core.Bool.{Bool, true, false, _&&_}
+use Prim.Native.Nat.{ℕ, zero, suc, _*_}
+use lib.Dec.{leb}
+
+-- n is from low to high
+abbrev pub between : ℕ → ℕ → ℕ → Bool
+between low high n = leb low n && leb n high
+
+-- a square
+abbrev pub sq : ℕ → ℕ
+sq a = a * a
+
+-- the least number from k on, at most d further, that passes the test; k + d where none before it does
+unfoldable pub leastFrom : (ℕ → Bool) → ℕ → ℕ → ℕ
+leastFrom p k zero = k
+leastFrom p k (suc d) = elim (p k) [ true ↦ k | false ↦ leastFrom p (suc k) d ]
