@@ -13,19 +13,15 @@ use Rattle.reduction.specs.declared.share.Share.the-variants.{Twentieths
 use Rattle.reduction.specs.Share.{oneFloor, isFormula, rootAtLeast, rootAtMost, leastTwentieths, formulaShare, otherTwentieths, shareOf, AtMostOne}
 use Rattle.reduction.proofs.Root.{not-at-least, cap-last}
 
--- The share of formula lines: capped at 1; past the cap, where the least share is k/20, held at it or the root.
+-- The share of formula lines: capped at 1; past the cap, where the least share is k/20, that or the root.
 pub formula-capped : (n : ℕ) (x : InfluenceArea) → x .0 ≤ 3712 → Twentieths 20 ≡ formulaShare n x
 unfolding formulaShare
 formula-capped n x h = rw (cap-last x, le-leb (x .0) 3712 h)
 
-module _ (n : ℕ) (x : InfluenceArea) (k : ℕ) (least : leastTwentieths n ≡ k) (past : 3712 < x .0) where
-  pub formula-held : rootAtMost k x ≡ true → Twentieths k ≡ formulaShare n x
-  unfolding formulaShare
-  formula-held h = rw (cap-last x, lt-leb (x .0) 3712 past, least, h)
-
-  pub formula-root : rootAtMost k x ≡ false → Root x ≡ formulaShare n x
-  unfolding formulaShare
-  formula-root h = rw (cap-last x, lt-leb (x .0) 3712 past, least, h)
+pub formula-past : (n : ℕ) (x : InfluenceArea) (k : ℕ) (b : Bool) → leastTwentieths n ≡ k → 3712 < x .0 → rootAtMost k x ≡ b
+    → cond b (Twentieths k) (Root x) ≡ formulaShare n x
+unfolding formulaShare
+formula-past n x k b least past h = rw (cap-last x, lt-leb (x .0) 3712 past, least, h)
 
 pub least-one : (n : ℕ) → n ≤ 1 → leastTwentieths n ≡ 10
 unfolding leastTwentieths oneFloor

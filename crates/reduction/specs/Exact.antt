@@ -1,6 +1,6 @@
 -- Paper 01, "Reduced load and figure", demand 3: a figure F against the exact total E, on whole numbers and squares.
 -- t is T, the sum of Lo × area over the lines with the share s (in demand 3 the formula lines), p is 20 × P, and a is A.
--- T = 0 needs no case of its own: X is then 0, and the formula lines' share 1.
+-- Where no formula line is carried T and X are 0, and the share at X = 0 is 1: that case is among the twentieths.
 -- Assumes nothing.
 use mathlib.Core.Logic.{_⊎_}
 use Prim.Native.Nat.{ℕ, _+_, _*_, _-_, _≤_, _<_}
