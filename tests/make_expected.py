@@ -11,14 +11,14 @@ TESTS = Path(__file__).resolve().parent
 ROOT = TESTS.parent
 sys.path.insert(0, str(TESTS))
 
-from reckoning import trial_reduction
+from reckoning import trial
 
-TRIALS = (trial_reduction,)
+TRIALS = (trial,)
 
 
 def expected_files():
     """The texts of every trial by their place in the repository."""
-    return {place: made for trial in TRIALS for place, made in trial.files().items()}
+    return {place: made for each in TRIALS for place, made in each.files().items()}
 
 
 def write(expected):
@@ -62,8 +62,9 @@ def check(expected):
         print(said)
     if complaints:
         return 1
-    cases = sum(trial.case_count() for trial in TRIALS)
-    print(f"{len(expected)} files compared, {cases} cases, no difference")
+    cases = sum(each.case_count() for each in TRIALS)
+    columns = sum(each.column_count() for each in TRIALS)
+    print(f"{len(expected)} files compared, {cases} cases, {columns} columns, no difference")
     return 0
 
 

@@ -1,4 +1,4 @@
-"""Tries the second reckoning itself: the paper's figures, its wrong turns, and the definition of R."""
+"""Tries the second reckoning itself: the paper's figures, its wrong turns, the definition of R, and columns."""
 
 import sys
 
@@ -12,7 +12,26 @@ from pathlib import Path
 
 sys.path.insert(0, str(Path(__file__).resolve().parent))
 
-from reckoning import trial_reduction as trial
+from reckoning import trial, trial_column, trial_reduction
+from reckoning.column import (
+    Asked,
+    Column,
+    Line,
+    ask,
+    ask_list,
+    bounds_by_closing_in,
+    bounds_by_squares,
+    carried,
+    column_of,
+    enter,
+    entry_number,
+    exact_total,
+    influence_area,
+    open_member,
+    require_asked,
+    require_first,
+    sign_of,
+)
 from reckoning.reduction import (
     TABLE_4_2,
     Answer,
@@ -52,7 +71,7 @@ class PaperFigures(unittest.TestCase):
 
     def test_table(self):
         """Every row gives the printed R, and the printed R is the least by the definition."""
-        for load, cls, floors, influence, printed in trial.PAPER_FIGURES:
+        for load, cls, floors, influence, printed in trial_reduction.PAPER_FIGURES:
             for x in INFLUENCES if influence is None else (influence,):
                 with self.subTest(load=load, cls=cls, floors=floors, influence=x):
                     self.assertEqual(reduced(load, cls, floors, x), printed)
@@ -192,7 +211,7 @@ class Definition(unittest.TestCase):
 
     def test_random_lines(self):
         """R is the least, and its neighbours are not, on some thousand lines."""
-        lot = trial.Lot(1_981)
+        lot = trial_reduction.Lot(1_981)
         for _ in range(4_000):
             load = lot.between(1, lot.one_of((20, 5_000, 50_000)))
             x = lot.one_of((lot.between(0, 100_000), lot.any_size()))
@@ -214,36 +233,404 @@ class Definition(unittest.TestCase):
 
     def test_near_whole_loads(self):
         """The formula passes r between the X of such a case and the X before it."""
-        lot = trial.Lot(7)
+        lot = trial_reduction.Lot(7)
         for _ in range(1_000):
-            (load, _cls, _floors, x), (_l, _c, _n, before) = trial.near_whole_load(lot)
+            (load, _cls, _floors, x), (_l, _c, _n, before) = trial_reduction.near_whole_load(lot)
             self.assertEqual(before, x - 1)
             self.assertLess(uncapped_load(load, x), uncapped_load(load, before))
 
 
+# ---- Columns -------------------------------------------------------------
+
+
+def flat(entries):
+    """The entries as one list of numbers."""
+    return [number for entry in entries for number in entry]
+
+
+def column(code, *entries):
+    """The column of a member after its entries; the code must not be refused."""
+    number, made = column_of(code, flat(entries))
+    assert number == 0, code
+    return made
+
+
+def numbers_of(code, *entries):
+    """The number for each entry, in order."""
+    _number, made = open_member(code)
+    found = []
+    for entry in entries:
+        number, made = enter(made, Line(*entry))
+        found.append(number)
+    return found
+
+
+class PaperColumns(unittest.TestCase):
+    """The paper's two columns."""
+
+    def test_interior_column(self):
+        """6,000 on 10,000 dm2 and 2,000 on 100 dm2: figures 60,000,000 and 48,200,000."""
+        made = column(1, (1, 1, 6_000, 10_000), (2, 1, 2_000, 100))
+        self.assertEqual(ask(made, 1), Asked(1, 0, 60_000_000))
+        self.assertEqual(ask(made, 2), Asked(2, 400, 48_200_000))
+
+    def test_sheet_column(self):
+        """The sheet prints n, X and the figure at floors 1 and 2."""
+        made = column(1, (1, 1, 2_000, 1_600), (2, 1, 2_000, 1_600))
+        self.assertEqual(ask(made, 1), Asked(1, 6_400, 2_628_800))
+        self.assertEqual(ask(made, 2), Asked(2, 12_800, 4_185_600))
+
+
+class OpeningAndEntering(unittest.TestCase):
+    """Numbers 1 to 6 and the accepted lines."""
+
+    def test_opening(self):
+        """A good code gives a column with no line, another one number 1 and no column."""
+        for code in range(1, 13):
+            self.assertEqual(open_member(code), (0, Column(factor(code).value, ())))
+        for code in (0, 13, 255, 256, 257, 268, 2**32 + 1, 2**64 - 1):
+            self.assertEqual(open_member(code), (1, None))
+
+    def test_limits(self):
+        """Each number at its limits and one beyond, and numbers that look right when cut."""
+        good = (5, 1, 2_000, 1_600)
+        limits = ((0, 64, 3), (1, 3, 4), (2, 50_000, 5), (3, 200_000, 6))
+        for part, most, number in limits:
+            for value in (1, most):
+                self.assertEqual(numbers_of(1, trial_column.with_part(good, part, value)), [0])
+            for value in (0, most + 1, 2**16 * 4 + 1, 2**32 + 1, 2**32 + most, 2**64 - 1):
+                self.assertEqual(numbers_of(1, trial_column.with_part(good, part, value)), [number])
+
+    def test_order_of_refusals(self):
+        """Of several faults the first in the table's order gives the number."""
+        entry, faulty = (5, 1, 2_000, 1_600), (4, 9, 0, 200_001)
+        for parts in trial_column.FAULTS:
+            spoiled = tuple(faulty[at] if at in parts else entry[at] for at in range(4))
+            self.assertEqual(numbers_of(1, entry, spoiled), [0, 3 + parts[0]])
+
+    def test_full_column_comes_first(self):
+        """'256 lines held' is number 2, whatever else is wrong."""
+        held = column(1, *[(7, 1, 2_000, 10)] * 256).lines
+        self.assertEqual(len(held), 256)
+        for entry in ((7, 1, 2_000, 10), (0, 0, 0, 0), (6, 1, 1, 1), (65, 4, 50_001, 200_001), (2**64 - 1, 1, 1, 1)):
+            self.assertEqual(entry_number(held, Line(*entry)), 2)
+            self.assertNotEqual(entry_number(held[:255], Line(*entry)), 2)
+
+    def test_255_256_257(self):
+        """The 256th line is accepted, the 257th is not."""
+        found = numbers_of(12, *[(64, 3, 1, 1)] * 258)
+        self.assertEqual(found, [0] * 256 + [2, 2])
+
+    def test_refused_lines_are_not_held(self):
+        """300 entries tried, every other one refused: 150 lines are held and none is too many."""
+        found = numbers_of(1, *[(1, 1, 1, 1), (1, 4, 1, 1)] * 150)
+        self.assertEqual(found, [0, 4] * 150)
+
+    def test_floor_follows_the_last_accepted_line(self):
+        """A refused line's floor binds nothing, neither a greater nor a smaller one."""
+        entries = ((2, 1, 9, 9), (10, 4, 9, 9), (3, 1, 9, 9), (1, 1, 9, 9), (2, 1, 9, 9), (3, 1, 9, 9), (64, 1, 9, 9))
+        self.assertEqual(numbers_of(1, *entries), [0, 4, 0, 3, 3, 0, 0])
+
+    def test_refused_entry_changes_nothing(self):
+        """The column after a refused entry is the column before it."""
+        made = column(3, (5, 1, 2_000, 1_600))
+        for entry in ((4, 1, 1, 1), (5, 0, 1, 1), (5, 1, 0, 1), (5, 1, 1, 0)):
+            number, after = enter(made, Line(*entry))
+            self.assertNotEqual(number, 0)
+            self.assertEqual(after, made)
+
+
+class Asking(unittest.TestCase):
+    """n, X, the figure and number 7."""
+
+    def test_repeated_and_skipped_floors(self):
+        """n counts distinct floors carried, not lines and not floor numbers."""
+        made = column(7, *[(floor, 1, 2_000, 10) for floor in (3, 3, 3, 9, 9, 64)])
+        self.assertEqual([ask(made, floor).floors for floor in (3, 9, 64)], [1, 2, 3])
+        self.assertEqual([ask(made, floor).influence for floor in (3, 9, 64)], [30, 50, 60])
+
+    def test_floor_without_line(self):
+        """'No accepted line has that floor' is number 7, between floors too."""
+        made = column(1, (3, 1, 2_000, 10), (9, 1, 2_000, 10), (10, 4, 2_000, 10))
+        for floor in (0, 1, 2, 4, 8, 10, 64, 65, 256 + 3, 2**32 + 9, 2**64 - 1):
+            self.assertEqual(ask(made, floor), Asked(refused=7))
+        self.assertEqual(ask(column(1), 1), Asked(refused=7))
+
+    def test_mixed_classes(self):
+        """'Only formula lines add to X and all lines add to n.'"""
+        other = ((1, 2, 2_500, 100), (3, 3, 4_000, 400), (4, 1, 5_001, 800))
+        made = column(3, *sorted((*other, (2, 1, 5_000, 200), (5, 1, 1, 1_600))))
+        self.assertEqual([ask(made, floor).influence for floor in range(1, 6)], [0, 600, 600, 600, 5_400])
+        self.assertEqual([ask(made, floor).floors for floor in range(1, 6)], [1, 2, 3, 4, 5])
+        self.assertEqual(ask(made, 1).figure, 2_500 * 100)
+        self.assertEqual(ask(made, 4).figure, 2_000 * 100 + 5_000 * 200 + 4_000 * 400 + 4_001 * 800)
+
+    def test_areas_are_summed(self):
+        """'Each floor reduced by its own area, not by the sum' is wrong."""
+        made = column(1, (1, 1, 2_000, 1_600), (2, 1, 2_000, 1_600))
+        self.assertEqual(ask(made, 2).figure, 3_200 * reduced(2_000, 1, 2, 12_800))
+        self.assertNotEqual(reduced(2_000, 1, 2, 12_800), reduced(2_000, 1, 2, 6_400))
+
+    def test_figure_may_fall(self):
+        """'A rule that figures never fall going down' is wrong, for heavy and for formula lines."""
+        for cls, load in ((1, 6_000), (2, 2_500), (1, 2_000)):
+            made = column(1, (1, cls, load, 100_000), (2, 3, 1, 1))
+            self.assertGreater(ask(made, 1).figure, ask(made, 2).figure)
+
+    def test_lines_below_do_not_count(self):
+        """A floor's answer stays the same when lines are added below it."""
+        entries = ((1, 1, 2_000, 1_600), (2, 2, 2_500, 900), (2, 1, 5_000, 3_000), (7, 1, 6_000, 200_000))
+        whole = column(2, *entries)
+        for count in (1, 3):
+            floor = entries[count - 1][0]
+            self.assertEqual(ask(whole, floor), ask(column(2, *entries[:count]), floor))
+
+    def test_largest(self):
+        """256 of the largest lines: the greatest figure and the greatest influence area."""
+        self.assertEqual(ask(column(1, *[(64, 3, 50_000, 200_000)] * 256), 64), Asked(1, 0, 2_560_000_000_000))
+        self.assertEqual(
+            ask(column(1, *[(64, 1, 5_000, 200_000)] * 256), 64), Asked(1, 204_800_000, 128_000_000_000)
+        )
+
+
+class WholeLists(unittest.TestCase):
+    """A flat list of numbers, four an entry."""
+
+    ENTRIES = ((1, 1, 2_000, 1_600), (1, 4, 2_000, 1_600), (2, 1, 2_000, 1_600), (1, 1, 2_000, 1_600))
+
+    def test_refused_entries_are_passed_over(self):
+        """The list goes on after a refused entry."""
+        self.assertEqual(ask_list(1, flat(self.ENTRIES), 2), Asked(2, 12_800, 4_185_600))
+
+    def test_remainder_is_no_entry(self):
+        """One to three numbers at the end change nothing; three left off take an entry away."""
+        numbers = flat(self.ENTRIES[:3])
+        for more in ((), (2,), (2, 1), (2, 1, 2_000)):
+            self.assertEqual(ask_list(1, [*numbers, *more], 2), Asked(2, 12_800, 4_185_600))
+        for left_off in (1, 2, 3, 4):
+            self.assertEqual(ask_list(1, numbers[:-left_off], 2), Asked(refused=7))
+            self.assertEqual(ask_list(1, numbers[:-left_off], 1), Asked(1, 6_400, 2_628_800))
+
+    def test_refusals(self):
+        """Number 1 comes before number 7; an empty list has no floor."""
+        for code in (0, 13, 257, 2**64 - 1):
+            self.assertEqual(ask_list(code, flat(self.ENTRIES), 2), Asked(refused=1))
+            self.assertEqual(ask_list(code, [], 0), Asked(refused=1))
+        for numbers in ([], [1], [1, 1], [1, 1, 1]):
+            self.assertEqual(ask_list(1, numbers, 1), Asked(refused=7))
+
+    def test_more_than_256(self):
+        """Of 300 entries the first 256 are taken."""
+        numbers = flat([(1, 3, 1, 1)] * 300)
+        self.assertEqual(ask_list(1, numbers, 1), Asked(1, 0, 256))
+        self.assertEqual(ask_list(1, numbers[: 4 * 256 - 1], 1), Asked(1, 0, 255))
+
+
+class Scripts(unittest.TestCase):
+    """What the trial program keeps from question to question."""
+
+    def test_before_any_open(self):
+        """At the start there is a fresh column of code 1, and lists are of code 1."""
+        script = trial_column.Script()
+        script.ask(1)
+        script.enter(1, 1, 2_000, 1_600)
+        script.ask(1)
+        script.list(1)
+        told = "floors=1 influence=6400 figure=2628800"
+        self.assertEqual(script.prints, ["refused=7", "number=0", told, told])
+
+    def test_refused_open(self):
+        """The column of before stays and takes the next lines; a list has the refused code."""
+        script = trial_column.Script()
+        script.open(1)
+        script.enter(1, 1, 2_000, 1_600)
+        script.open(13)
+        script.list(1)
+        script.enter(2, 1, 2_000, 1_600)
+        script.ask(2)
+        script.list(2)
+        after = ["number=1", "refused=1", "number=0", "floors=2 influence=12800 figure=4185600", "refused=1"]
+        self.assertEqual(script.prints[2:], after)
+
+    def test_good_open(self):
+        """A fresh column has no line of before, and a list has the entries since 'open' only."""
+        script = trial_column.Script()
+        script.enter(1, 1, 2_000, 1_600)
+        script.open(7)
+        script.ask(1)
+        script.list(1)
+        script.enter(1, 1, 2_000, 6_400)
+        script.list(1, 0)
+        script.list(1, 3)
+        after = ["refused=7", "refused=7", "number=0", "floors=1 influence=6400 figure=10515200", "refused=7"]
+        self.assertEqual(script.prints[2:], after)
+
+
+class ExactTotal(unittest.TestCase):
+    """E <= F < E + A by both tests, and that both can fail."""
+
+    # Columns whose E at floor 2 is whole: no formula line, capped, least shares, and a whole root (X = 10,000).
+    WHOLE = (
+        (1, ((1, 2, 2_500, 100), (2, 3, 4_000, 300)), 1_400_000),
+        (1, ((1, 1, 2_000, 100), (2, 1, 3_000, 300)), 1_100_000),
+        (2, ((2, 1, 2_000, 9_000), (2, 1, 3_000, 9_000)), 22_500_000),
+        (1, ((1, 1, 2_000, 20_000), (2, 1, 3_000, 30_000)), 52_000_000),
+        (7, ((1, 1, 1_000, 4_000), (2, 1, 3_000, 6_000)), 15_554_000),
+        (7, ((1, 1, 1_000, 4_000), (2, 1, 3_000, 6_000), (2, 1, 6_000, 100)), 16_034_000),
+    )
+
+    def both(self, made, floor, figure):
+        """What both tests say of a figure; they must agree."""
+        lines = carried(made, floor)
+        influence = influence_area(made.k, lines)
+        found = bounds_by_closing_in(lines, influence, figure)
+        self.assertEqual(found, bounds_by_squares(lines, influence, figure), (made, floor, figure))
+        return found
+
+    def test_whole_total(self):
+        """Where E is whole, E passes, E - 1 is too low, E + A - 1 passes, E + A is too high."""
+        for code, entries, total in self.WHOLE:
+            made = column(code, *entries)
+            area = sum(entry[3] for entry in entries)
+            self.assertEqual(ask(made, 2).figure, total)
+            self.assertEqual(self.both(made, 2, total), (True, True))
+            self.assertEqual(self.both(made, 2, total - 1), (False, True))
+            self.assertEqual(self.both(made, 2, total + area - 1), (True, True))
+            self.assertEqual(self.both(made, 2, total + area), (True, False))
+
+    def test_one_area_too_high(self):
+        """A figure with each R one too high is refused; so are the unreduced sum, 0 and less."""
+        for made, floor, answer in self.by_lot(200):
+            area = sum(line.area for line in carried(made, floor))
+            self.assertEqual(self.both(made, floor, answer.figure), (True, True))
+            self.assertEqual(self.both(made, floor, answer.figure + area), (True, False))
+            self.assertEqual(self.both(made, floor, 0), (False, True))
+            self.assertEqual(self.both(made, floor, -answer.figure), (False, True))
+        made = column(1, (1, 1, 2_000, 1_600), (2, 1, 2_000, 1_600))
+        self.assertEqual(self.both(made, 2, 2_000 * 3_200), (True, False))
+
+    def test_tests_agree_beside_the_bounds(self):
+        """Both tests turn at the same whole figure, at E and at E + A."""
+        for made, floor, answer in self.by_lot(300):
+            lines = carried(made, floor)
+            plain, times = exact_total(lines, answer.influence)
+            # The root term, rounded down, of times * sqrt(X), which is the root of times^2 * X.
+            term = times**2 * answer.influence
+            total = plain + Fraction(isqrt(term.numerator * term.denominator), term.denominator)
+            for at in (int(total), int(total) + sum(line.area for line in lines)):
+                found = [self.both(made, floor, at + step) for step in range(-3, 4)]
+                self.assertEqual(len(set(found)), 2, (made, floor))
+
+    def test_signs(self):
+        """The sign of plain + times * sqrt(under), where the root comes out and where it is close."""
+        self.assertEqual([sign_of(plain, 1, 4) for plain in (-3, -2, -1)], [-1, 0, 1])
+        self.assertEqual([sign_of(plain, 0, 7) for plain in (-1, 0, 1)], [-1, 0, 1])
+        for number in (10**6, 10**12, 10**30):
+            self.assertEqual(sign_of(-number, 1, number**2 + 1), 1)
+            self.assertEqual(sign_of(-number, 1, number**2 - 1), -1)
+            self.assertEqual(sign_of(Fraction(number), -1, number**2 + 1), -1)
+            self.assertEqual(sign_of(-number, 1, number**2), 0)
+
+    def test_wrong_answers_stop_the_making(self):
+        """A wrong n, X, figure or number raises an error."""
+        made = column(1, (1, 1, 2_000, 1_600), (2, 1, 2_000, 1_600))
+        require_asked(made, 2, Asked(2, 12_800, 4_185_600))
+        wrong = (
+            *(Asked(1, 12_800, 4_185_600), Asked(2, 6_400, 4_185_600), Asked(2, 3_200, 4_185_600)),
+            *(Asked(2, 12_800, 4_185_600 + 3_200), Asked(2, 12_800, 4_185_600 - 3_200), Asked(refused=7)),
+        )
+        for answer in wrong:
+            self.assertRaises(AssertionError, require_asked, made, 2, answer)
+        self.assertRaises(AssertionError, require_asked, made, 3, Asked(2, 12_800, 4_185_600))
+        for number in (0, 2, 4, 5, 6):
+            self.assertRaises(AssertionError, require_first, made, Line(1, 4, 0, 0), number)
+
+    def by_lot(self, count):
+        """Columns by lot, each with its last floor and the answer there."""
+        lot = trial_reduction.Lot(31)
+        for _ in range(count):
+            script = trial_column.Script()
+            script.open(lot.between(1, 12))
+            trial_column.enter_by_lot(script, lot, lot.between(1, 8), 0)
+            floor = script.last_floor()
+            yield script.column, floor, ask(script.column, floor)
+
+
 class Texts(unittest.TestCase):
-    """The form of the two texts."""
+    """The form of the two texts and what they hold."""
+
+    NUMBER = "(?:0|[1-9][0-9]{0,19})"
+    # Each form of a question, and the forms of the line printed for it.
+    FORMS = (
+        ("factor N", "factor=[1-4]|refused=1"),
+        ("reduced N N N N", "reduced=N|refused=[45]"),
+        ("open N", "number=[01]"),
+        ("enter N N N N", "number=[02-6]"),
+        ("ask N", "floors=N influence=N figure=N|refused=7"),
+        ("list N [0-3]", "floors=N influence=N figure=N|refused=[17]"),
+    )
+
+    @classmethod
+    def setUpClass(cls):
+        """Makes the two texts once."""
+        made = trial.files()
+        cls.stdin, cls.stdout = made[trial.STDIN].decode(), made[trial.STDOUT].decode()
+        cls.pairs = list(zip(cls.stdin.splitlines(), cls.stdout.splitlines()))
+
+    def count(self, word, printed):
+        """How many questions of a word have this printed line."""
+        return sum(read.split()[0] == word and line == printed for read, line in self.pairs)
 
     def test_form(self):
-        """One printed line for each line read; plain numbers of at most 20 digits."""
-        made = trial.files()
-        stdin, stdout = made[trial.STDIN].decode(), made[trial.STDOUT].decode()
-        number = "(0|[1-9][0-9]{0,19})"
-        self.assertTrue(re.fullmatch(f"({number}( {number}){{3}}\n|{number}\n)*", stdin))
-        self.assertLess(len(stdin), trial.STDIN_LIMIT)
-        reads, prints = stdin.splitlines(), stdout.splitlines()
-        self.assertEqual(len(reads), len(prints))
-        self.assertEqual(len(reads), trial.case_count())
-        code = f"code={number} (factor=[1-4]|refused=1)"
-        load = f"load={number} class={number} floors={number} influence={number} (reduced={number}|refused=[45])"
-        for read, printed in zip(reads, prints):
-            self.assertTrue(re.fullmatch(code if " " not in read else load, printed), printed)
-            told = re.findall("=([0-9]+)", printed)
-            self.assertEqual(read.split(), told[:-1])
+        """One printed line for each line read, of a form that fits it; plain numbers of at most 20 digits."""
+        forms = "|".join(f"(?:{read})\t(?:{printed})" for read, printed in self.FORMS)
+        form = re.compile(forms.replace("N", self.NUMBER))
+        for pair in self.pairs:
+            self.assertTrue(form.fullmatch("\t".join(pair)), pair)
+        for part, text in enumerate((self.stdin, self.stdout)):
+            self.assertEqual(text, "".join(pair[part] + "\n" for pair in self.pairs))
+        self.assertEqual(len(self.pairs), trial.case_count())
+
+    def test_line_answers_line(self):
+        """Each question put anew from its text has the printed line of the same place."""
+        script = trial_column.Script()
+        for read, printed in self.pairs:
+            word, *numbers = read.split()
+            case = tuple(int(number) for number in numbers)
+            if word in ("factor", "reduced"):
+                self.assertEqual(trial_reduction.printed_line(case), printed, read)
+            else:
+                getattr(script, word)(*case)
+                self.assertEqual((script.reads[-1], script.prints[-1]), (read, printed))
+
+    def test_old_questions_come_first(self):
+        """The questions about K and R, then those about columns, the paper's figures among the first."""
+        words = [read.split()[0] for read, _printed in self.pairs]
+        self.assertEqual(set(words[: trial_reduction.case_count()]), {"factor", "reduced"})
+        self.assertEqual(set(words[trial_reduction.case_count() :]), {"open", "enter", "ask", "list"})
+        first = self.pairs[trial_reduction.case_count() :][:40]
+        self.assertIn(("ask 2", "floors=2 influence=400 figure=48200000"), first)
+        self.assertIn(("ask 2", "floors=2 influence=12800 figure=4185600"), first)
+
+    def test_entries_after_one_open(self):
+        """Never more than 300 entries after one 'open'."""
+        counts = [part.count("\nenter ") for part in self.stdin.split("\nopen ")]
+        self.assertEqual(max(counts), 300)
+
+    def test_every_number_is_there(self):
+        """Each number of refusal, for each kind of question, many times."""
+        entering = [("enter", f"number={number}") for number in (2, 3, 4, 5, 6)]
+        asking = [("ask", "refused=7"), ("list", "refused=1"), ("list", "refused=7")]
+        for word, printed in (("open", "number=1"), *entering, *asking):
+            self.assertGreaterEqual(self.count(word, printed), 50, (word, printed))
 
     def test_enough(self):
-        """At least 5,000 generated cases."""
-        self.assertGreaterEqual(len(trial.generated_cases()), 5_000)
+        """At least 5,000 generated cases of K and R, 1,500 columns, and every good code."""
+        self.assertGreaterEqual(len(trial_reduction.generated_cases()), 5_000)
+        self.assertGreaterEqual(trial.column_count(), 1_500)
+        self.assertEqual(trial.column_count() - 1, self.count("open", "number=0"))
+        for code in range(1, 13):
+            self.assertIn((f"open {code}", "number=0"), self.pairs)
 
 
 if __name__ == "__main__":

@@ -1,12 +1,8 @@
-"""Makes the cases of the trial of K and R: the text the trial program reads and the text it is to print."""
+"""Makes the questions of the trial about K and R: the lines the trial program reads and the lines it is to print."""
 
 from itertools import product
 
 from reckoning.reduction import factor, is_least, reduced_load
-
-STDIN = "crates/trial_reduction/stdin"
-STDOUT = "crates/trial_reduction/stdout"
-STDIN_LIMIT = 240_000
 
 GREATEST = 2**64 - 1  # the greatest number a case may hold
 
@@ -255,7 +251,7 @@ def generated_cases():
     return [case for maker, draws in MAKERS for _ in range(draws) for case in maker(lot)]
 
 
-# ---- The two texts -------------------------------------------------------
+# ---- The lines --------------------------------------------------------
 
 
 def cases_by_kind():
@@ -279,20 +275,15 @@ def case_count():
     return len(cases())
 
 
-def ending(answer, name):
-    """The last part of a printed line: the value by its name, or the number of the refusal."""
+def told(answer, name):
+    """The printed line of an answer: the value by its name, or the number of the refusal."""
     if answer.refused is not None:
         return f"refused={answer.refused}"
     return f"{name}={answer.value}"
 
 
-def code_line(code):
-    """The printed line of a member's code."""
-    return f"code={code} {ending(factor(code), 'factor')}"
-
-
-def load_line(load, cls, floors, influence):
-    """The printed line of a load; R is held against the definition each time."""
+def checked_load(load, cls, floors, influence):
+    """R or the number of the refusal; R is held against the definition each time."""
     answer = reduced_load(load, cls, floors, influence)
     if answer.refused is None:
         require(1 <= cls <= 3 and 1 <= load <= 50_000, "a value for a refused line")
@@ -300,29 +291,26 @@ def load_line(load, cls, floors, influence):
     else:
         require(answer.refused == (4 if cls not in (1, 2, 3) else 5), "class is refused before load")
         require(answer.refused == 4 or load < 1 or load > 50_000, "a line refused for nothing")
-    start = f"load={load} class={cls} floors={floors} influence={influence}"
-    return f"{start} {ending(answer, 'reduced')}"
+    return answer
 
 
 def read_line(case):
     """The line of a case as the trial program reads it."""
     require(all(0 <= number <= GREATEST for number in case), "a number beyond 64 bits")
-    return " ".join(str(number) for number in case)
+    word = "factor" if len(case) == 1 else "reduced"
+    return " ".join((word, *(str(number) for number in case)))
 
 
 def printed_line(case):
-    """The line of a case as the trial program is to print it."""
-    return code_line(*case) if len(case) == 1 else load_line(*case)
+    """The line of a case as the trial program is to print it; the case itself is not said again."""
+    return told(factor(*case), "factor") if len(case) == 1 else told(checked_load(*case), "reduced")
 
 
-def text(lines):
-    """The lines as bytes, each ended by one byte 10."""
-    return "".join(line + "\n" for line in lines).encode("ascii")
+def reads():
+    """The lines the trial program reads."""
+    return [read_line(case) for case in cases()]
 
 
-def files():
-    """The two texts by their place in the repository."""
-    made = cases()
-    stdin = text(read_line(case) for case in made)
-    require(len(stdin) < STDIN_LIMIT, f"stdin has {len(stdin)} bytes")
-    return {STDIN: stdin, STDOUT: text(printed_line(case) for case in made)}
+def prints():
+    """The lines the trial program is to print."""
+    return [printed_line(case) for case in cases()]

@@ -10,9 +10,10 @@ use Rattle.refusal.specs.Said.{Said, gives, refused}
 use Rattle.reduction.specs.declared.InfluenceArea.{InfluenceArea}
 use Rattle.reduction.specs.declared.share.Share.the-variants.{Root}
 use Rattle.reduction.specs.Numbers.{leastFrom}
+use Rattle.reduction.specs.Lists.{All, none, more}
 use Rattle.reduction.specs.Share.{isFormula, oneFloor, rootAtLeast, rootAtMost, leastTwentieths, formulaShare, otherTwentieths, shareOf}
 use Rattle.reduction.specs.Reduced.{reaches, reduced, reducedOf}
-use Rattle.reduction.specs.Figures.{dm², at, any, uncapped, Row, row, figures, Says, All}
+use Rattle.reduction.specs.Figures.{dm², at, any, uncapped, Row, row, figures, Says}
 
 -- an answer gives this number
 is : ℕ → Said ℕ → Bool
@@ -47,17 +48,17 @@ all-right : List Row → Bool
 all-right [] = true
 all-right (q ∷ qs) = right q && all-right qs
 
-all-say : (qs : List Row) → all-right qs ≡ true → All qs
-unfolding all-right All
-all-say [] e = tt
+all-say : (qs : List Row) → all-right qs ≡ true → All Says qs
+unfolding all-right
+all-say [] e = none
 all-say (q ∷ qs) e =
     let both = and-eq-true-iff _ _ .0 e in
-    (says q (both .0), all-say qs (both .1))
+    more (says q (both .0)) (all-say qs (both .1))
 
 computed : all-right figures ≡ true
 unfolding figures all-right right is reducedOf reduced reaches leastFrom shareOf isFormula oneFloor rootAtLeast rootAtMost leastTwentieths formulaShare otherTwentieths
 computed = refl
 
 -- 01, Figures to check against: every row with P
-pub figures-hold : All figures
+pub figures-hold : All Says figures
 figures-hold = all-say figures computed

@@ -46,6 +46,11 @@ share-fits load class n x l =
         (λ _ _. (omega (arith, least-within n), l))
         (λ c h. (root-above x c, root-below n x h, formula-load load class e))
 
+-- and so does that of the formula lines: a load of 1 has it
+pub formula-fits : (n : ℕ) (x : InfluenceArea) → Fit (formulaShare n x) 1
+unfolding shareOf isFormula
+formula-fits n x = share-fits 1 1 n x (omega arith)
+
 bounds-one : (s : Share) (load : ℕ) → Bounds s load → AtMostOne s
 unfolding Bounds AtMostOne rootAtMost
 bounds-one (Twentieths k) load h = h .0
@@ -55,11 +60,6 @@ bounds-load : (s : Share) (load : ℕ) → Bounds s load → load ≤ 50000
 unfolding Bounds
 bounds-load (Twentieths k) load h = h .1
 bounds-load (Root x) load h = omega arith
-
-bounds-first : (s : Share) (load : ℕ) → Bounds s load → Bounds s 1
-unfolding Bounds
-bounds-first (Twentieths k) load h = omega arith
-bounds-first (Root x) load h = omega arith
 
 -- what a share that fits says once its case is known
 bounds-as : {s t : Share} {load : ℕ} → Fit s load → s ≡ t → Bounds t load
@@ -76,9 +76,6 @@ fit-root h e = bounds-as h e
 module _ {s : Share} {load : ℕ} (h : Fit s load) where
   pub fit-load : load ≤ 50000
   fit-load = bounds-load s load (h .bounds)
-
-  pub fit-first : Fit s 1
-  fit-first = record { bounds = bounds-first s load (h .bounds) }
 
   one : AtMostOne s
   one = bounds-one s load (h .bounds)

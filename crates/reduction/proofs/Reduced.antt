@@ -7,11 +7,13 @@ use native.Mathlib.Nat.{mul-le-mul-left, mul-le-mul-right, zero-add, le-refl, le
 use native.Mathlib.Decide.{decLe}
 use native.Mathlib.Omega.{arith}
 use borrow.Author.Tests.{leb-true, le-leb}
+use Rattle.refusal.specs.Said.{gives}
 use Rattle.reduction.specs.declared.InfluenceArea.{InfluenceArea}
 use Rattle.reduction.specs.declared.share.Share.{Share}
 use Rattle.reduction.specs.declared.share.Share.the-variants.{Twentieths, Root}
+use Rattle.reduction.specs.Numbers.{between}
 use Rattle.reduction.specs.Share.{leastTwentieths, formulaShare, shareOf, AtMostOne}
-use Rattle.reduction.specs.Reduced.{reaches, reduced, Least}
+use Rattle.reduction.specs.Reduced.{reaches, reduced, Least, reducedOf}
 use Rattle.reduction.proofs.Squares.{sq-le}
 use Rattle.reduction.proofs.Least.{found, none}
 use Rattle.reduction.proofs.Root.{reaches-root, reaches-twentieths, not-at-least, not-at-most}
@@ -109,3 +111,9 @@ module _ (n : ℕ) (x : InfluenceArea) (load r : ℕ) where
       between false b true f g = rw (g refl)
       between false true false f g = refl
       between false false false f g = refl
+
+-- a load and a class within their limits have their reduced load
+pub reduced-known : (load class n : ℕ) (x : InfluenceArea) → between 1 3 class ≡ true → between 1 50000 load ≡ true
+    → reducedOf load class n x ≡ gives (reduced (shareOf load class n x) load)
+unfolding reducedOf
+reduced-known load class n x c l = rw (c, l)

@@ -17,6 +17,9 @@ sq-lt {a} {b} h = lt-of-le-of-lt (mul-le-mul-left a (le-of-lt h)) (mul-lt-mul-of
 pub sq-le⁻¹ : {a b : ℕ} → sq a ≤ sq b → a ≤ b
 sq-le⁻¹ {a} {b} h = elim (decLe a b) [ yes p ↦ p | no n ↦ absurd (not-le-of-lt (sq-lt (lt-of-not-le n)) h) ]
 
+pub sq-lt⁻¹ : {a b : ℕ} → sq a < sq b → a < b
+sq-lt⁻¹ {a} {b} h = elim (decLe b a) [ yes p ↦ absurd (not-le-of-lt h (sq-le p)) | no n ↦ lt-of-not-le n ]
+
 pub sq-mul : (a b : ℕ) → sq (a * b) ≡ sq a * sq b
 sq-mul a b = mul-mul-mul-comm a b a b
 

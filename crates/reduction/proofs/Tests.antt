@@ -3,7 +3,7 @@
 use mathlib.Core.Path.{_≡_, sym, _∙_}
 use mathlib.Core.Bool.{Bool, true, false, not, and-eq-true-iff}
 use Prim.Native.Nat.{ℕ, _≤_}
-use borrow.Author.Tests.{leb-true, not-true, not-false}
+use borrow.Author.Tests.{leb-true, le-leb, not-true, not-false}
 use lib.Dec.{leb}
 use Rattle.reduction.specs.Numbers.{between}
 
@@ -19,3 +19,6 @@ pub limits : (low high n : ℕ) → between low high n ≡ true → (low ≤ n) 
 limits low high n h =
     let both = and-eq-true-iff (leb low n) (leb n high) .0 h in
     (leb-true _ _ (both .0), leb-true _ _ (both .1))
+
+pub in-limits : (low high n : ℕ) → low ≤ n → n ≤ high → between low high n ≡ true
+in-limits low high n h k = rw (le-leb low n h, le-leb n high k)

@@ -45,8 +45,3 @@ unfoldable pub Says : Row → Type 0
 Says (row load class n (at x) r) = reducedOf load class n (dm² x) ≡ gives r
 Says (row load class n any r) = (x : InfluenceArea) → reducedOf load class n x ≡ gives r
 Says (row load class n (uncapped x) r) = reduced (Root (dm² x)) load ≡ r
-
--- what all rows of a table say
-unfoldable pub All : List Row → Type 0
-All [] = Unit {0}
-All (r ∷ rs) = Says r × All rs

@@ -24,6 +24,10 @@ table4·2 =
     ∷ 1  -- 12 any other
     ∷ []
 
+-- 01, Member, line, floor: K of a code 1 to 12, by Table 4.2
+unfoldable pub tableFactor : ℕ → ℕ
+tableFactor code = getD table4·2 (code - 1) 0
+
 -- 01, Member, line, floor: K; 1 where the code is not 1 to 12
 unfoldable pub factorOf : ℕ → Said ℕ
-factorOf code = cond (between 1 12 code) (gives (getD table4·2 (code - 1) 0)) (refused 1)
+factorOf code = cond (between 1 12 code) (gives (tableFactor code)) (refused 1)

@@ -1,9 +1,12 @@
 // The reduced load: a share of a load, rounded up once, with every comparison on whole numbers.
 ghost use mathlib.Core.Path.{_≡_};
-ghost use Prim.Native.Nat.{_^_, _≤_};
+ghost use Prim.Native.Nat.{_*_, _/_, _^_, _≤_};
+ghost use Rattle.reduction.specs.Numbers.{sq};
 ghost use Rattle.reduction.specs.Reduced.{reaches, reduced};
+ghost use Rattle.reduction.specs.Estimate.{newtons, estimate};
 ghost use Rattle.reduction.specs.Fit.{Fit};
 use crate::InfluenceArea;
+use crate::RootEstimate;
 use crate::share::Share;
 
 // Whether r is not below share × load.
@@ -33,11 +36,11 @@ const FOUR_UNITS: u64 = 4194304;
 // (914 × 2²⁰)², the square of a scale times 25 X.
 const ROOT_SQUARE: u64 = 918527615797559296;
 
-// About 914 / (5 √X) units, by four of Newton's steps from a middle value. It only serves a guess,
-// so nothing is said of it but that it is small enough to multiply a load.
+// About 914 / (5 √X) units, by four of Newton's steps from a middle value; small enough to multiply
+// a load.
 fn root_scale(x: InfluenceArea) -> u64
     requires { ⌜ (3713 ≤ x .0) × (x .0 ≤ 92821) ⌝ }
-    ensures { λ r. ⌜ r ≤ 2 ^ 48 ⌝ }
+    ensures { λ r. ⌜ (r ≡ newtons (sq (914 * 2 ^ 20) / (25 * x .0))) × (r ≤ 2 ^ 48) ⌝ }
 {
     let square = ROOT_SQUARE / (25 * x.0);
     let a = (1400000 + square / 1400000) / 2;
@@ -49,11 +52,25 @@ fn root_scale(x: InfluenceArea) -> u64
 // The scale of a share, 0 where it has no root. It is the same for all lines with one share.
 pub fn scale_of(share: Share) -> u64
     requires { ⌜ Fit share 1 ⌝ }
-    ensures { λ r. ⌜ r ≤ 2 ^ 48 ⌝ }
+    ensures { λ r. ⌜ r ≡ estimate share ⌝ }
 {
     match share {
         Share::Twentieths(_) => 0,
         Share::Root(x) => root_scale(x),
+    }
+}
+
+// The largest scale that a load can be multiplied by, 2⁴⁸.
+const SCALE_MOST: u64 = 281474976710656;
+
+// An estimate as a scale: cut to the largest, so that every estimate serves.
+pub fn scale_from(estimate: RootEstimate) -> u64
+    ensures { λ r. ⌜ r ≤ 2 ^ 48 ⌝ }
+{
+    if estimate.0 <= SCALE_MOST {
+        estimate.0
+    } else {
+        SCALE_MOST
     }
 }
 

@@ -1,6 +1,6 @@
 // The share of a live load that is left after the reduction.
 ghost use mathlib.Core.Path.{_≡_};
-ghost use Rattle.reduction.specs.Share.{isFormula, formulaShare, shareOf};
+ghost use Rattle.reduction.specs.Share.{formulaShare, shareOf};
 use crate::InfluenceArea;
 
 // What a load is multiplied by: so many twentieths, or 1/4 + 45.7/√X.
@@ -15,16 +15,6 @@ const CAP_LAST: u64 = 3712;
 const HALF_FIRST: u64 = 33416;
 // The first at which it gives at most 2/5: 9 X is at least 914².
 const TWO_FIFTHS_FIRST: u64 = 92822;
-
-// Whether a line's load is reduced by the formula.
-pub fn is_formula(load: u64, class: u64) -> bool
-    ensures { λ b. ⌜ b ≡ isFormula load class ⌝ }
-{
-    if class == 1 {
-        return load <= 5000;
-    }
-    false
-}
 
 // The share of the formula lines: at most 1, at least 1/2 for one floor and 2/5 for more.
 pub fn formula_share(floors: u64, x: InfluenceArea) -> Share
@@ -50,7 +40,7 @@ pub fn formula_share(floors: u64, x: InfluenceArea) -> Share
 pub fn share_of(load: u64, class: u64, floors: u64, x: InfluenceArea) -> Share
     ensures { λ r. ⌜ r ≡ shareOf load class floors x ⌝ }
 {
-    if is_formula(load, class) {
+    if crate::is_formula(load, class) {
         return formula_share(floors, x);
     }
     if class == 3 {

@@ -2,7 +2,8 @@
 -- Assumes nothing.
 use mathlib.Core.Path.{_≡_, refl, sym, _∙_, ap}
 use mathlib.Core.List.{List, [], _∷_}
-use Prim.Native.Nat.{ℕ, _-_}
+use Prim.Native.Nat.{ℕ, _-_, _≤_}
+use native.Mathlib.Omega.{arith}
 use lib.ListN.{getD}
 use Rattle.refusal.specs.declared.Refusal.{Refusal}
 use Rattle.refusal.specs.declared.Refusal.the-variants.{UnknownCode, TooManyLines, FloorOutOfRange, UnknownClass, LoadOutOfRange, AreaOutOfRange}
@@ -61,3 +62,32 @@ number-injective q r e = sym (of-number q) ∙ (ap ofNumber e ∙ of-number r)
 -- two answers that say the same are one answer
 pub said-injective : (a b : Answer) → said a ≡ said b → a ≡ b
 said-injective a b e = sym (of-said a) ∙ (ap answerOf e ∙ of-said b)
+
+-- no refusal has the number 0
+pub number-positive : (r : Refusal) → 1 ≤ numberOf r
+unfolding numberOf
+number-positive UnknownCode = omega arith
+number-positive TooManyLines = omega arith
+number-positive FloorOutOfRange = omega arith
+number-positive UnknownClass = omega arith
+number-positive LoadOutOfRange = omega arith
+number-positive AreaOutOfRange = omega arith
+number-positive NoLineAtFloor = omega arith
+number-positive EffectNotWhole = omega arith
+number-positive EffectOutOfRange = omega arith
+number-positive SheetMalformed = omega arith
+number-positive SheetTooLong = omega arith
+
+-- an answer that says what it gives, gives that number and is no refusal
+pub gives-it : {a : Answer} {n k : ℕ} → a ≡ Gives n → said a ≡ gives k → n ≡ k
+unfolding said
+gives-it {a} {n} {k} p q =
+    let e : gives n ≡ gives k = ap said (sym p) ∙ q in
+    cc
+
+pub gives-not-refused : {a : Answer} {r : Refusal} {k : ℕ} → a ≡ Refused r → said a ≡ gives k → ⊥
+unfolding said
+gives-not-refused {a} {r} {k} p q =
+    let e : refused (numberOf r) ≡ gives k = ap said (sym p) ∙ q in
+    let z : _≡_ {A = ℕ} 0 1 = cc in
+    omega arith

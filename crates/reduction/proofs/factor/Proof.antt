@@ -6,7 +6,7 @@ use native.Mathlib.Omega.{arith}
 use Rattle.refusal.specs.Refusal.{numberOf}
 use Rattle.refusal.specs.Said.{said}
 use Rattle.reduction.specs.Numbers.{between}
-use Rattle.reduction.specs.Member.{table4·2, factorOf}
+use Rattle.reduction.specs.Member.{table4·2, tableFactor, factorOf}
 use Rattle.reduction.proofs.Tests.{passed, failed, limits}
 use borrow.Author.Needs.{needs}
 use Rattle.reduction.proofs.factor.Statement.{statement}
@@ -35,7 +35,7 @@ array-read-t6 : tie.Need-array-read-t6
 array-read-t6 c = omega (arith, in-table c)
 
 returns-2 : tie.Need-returns-2
-unfolding said factorOf table4·2
+unfolding said factorOf tableFactor table4·2
 returns-2 c = rw (known c)
 
 pub factor-spec : {M : Type 1} → statement M

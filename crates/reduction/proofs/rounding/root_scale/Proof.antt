@@ -1,5 +1,6 @@
 -- `reduction::rounding::root_scale` meets its contract: a step at most halves, so no divisor is 0, and no quotient passes what is divided.
 -- Assumes nothing.
+use mathlib.Core.Path.{refl}
 use Prim.Native.Nat.{ℕ, _+_, _*_, _/_, _^_, _≤_}
 use native.Mathlib.Nat.{div-le-self, div-le-of-le-mul}
 use native.Mathlib.Omega.{arith}
@@ -56,7 +57,7 @@ add-result : tie.Need-add-result
 add-result c = omega (arith, sizes (c .before))
 
 returns : tie.Need-returns
-returns c = omega (arith, sizes (c .before))
+returns c = (refl, omega (arith, sizes (c .before)))
 
 pub root-scale-spec : {M : Type 1} → statement M
 root-scale-spec =

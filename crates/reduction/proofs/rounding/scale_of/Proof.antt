@@ -1,5 +1,6 @@
 -- `reduction::rounding::scale_of` meets its contract. Assumes nothing.
 use native.Mathlib.Omega.{arith}
+use Rattle.reduction.specs.Estimate.{estimate}
 use Rattle.reduction.proofs.Fits.{fit-root}
 use borrow.Author.Needs.{needs}
 use Rattle.reduction.proofs.rounding.scale_of.Statement.{statement}
@@ -15,10 +16,12 @@ root-scale-requires : tie.Need-root-scale-requires
 root-scale-requires c κs = omega (arith, fit-root (c .before .before .before .pre) (c .before .share .given .1))
 
 returns : tie.Need-returns
+unfolding estimate
 returns c = search needs
 
 returns-2 : tie.Need-returns-2
-returns-2 c = search needs
+unfolding estimate
+returns-2 c = rw (c .before .before .share .given .1) (c .root-scale .ensures .0)
 
 pub scale-of-spec : {M : Type 1} → statement M
 scale-of-spec =

@@ -1,0 +1,52 @@
+-- Laws of choices and sums over a list, and of what holds of each element.
+-- Assumes nothing.
+use mathlib.Core.Path.{_≡_, refl}
+use mathlib.Core.Bool.{Bool, true, false, cond}
+use mathlib.Core.List.{List, [], _∷_, _++_}
+use Prim.Native.Nat.{ℕ, zero, suc, _+_}
+use native.Mathlib.Nat.{zero-add}
+use lib.ListN.{drop}
+use Rattle.reduction.specs.Lists.{All, none, more}
+use Rattle.column.specs.Lists.{keep, total}
+
+module _ {A : Type 0} where
+  -- an element that passes the test is kept, and one that fails it is not
+  pub keep-passed : (p : A → Bool) (x : A) (xs : List A) → p x ≡ true → keep p (x ∷ xs) ≡ x ∷ keep p xs
+  unfolding keep
+  keep-passed p x xs e = rw e
+
+  pub keep-failed : (p : A → Bool) (x : A) (xs : List A) → p x ≡ false → keep p (x ∷ xs) ≡ keep p xs
+  unfolding keep
+  keep-failed p x xs e = rw e
+
+  -- so the sum over what is kept has each element's number, or 0
+  pub total-keep : (f : A → ℕ) (p : A → Bool) (x : A) (xs : List A) → total f (keep p (x ∷ xs)) ≡ cond (p x) (f x) 0 + total f (keep p xs)
+  unfolding keep total
+  total-keep f p x xs = go (p x)
+    where
+      go : (b : Bool) → total f (cond b (x ∷ keep p xs) (keep p xs)) ≡ cond b (f x) 0 + total f (keep p xs)
+      go true = refl
+      go false = rw (zero-add (total f (keep p xs)))
+
+  -- what holds of each element holds of each with one more, of each from an index on, and of each that is kept
+  pub all-more : {P : A → Type 0} {xs : List A} {x : A} → All P xs → P x → All P (xs ++ (x ∷ []))
+  all-more none p = more p none
+  all-more (more q h) p = more q (all-more h p)
+
+  pub all-drop : {P : A → Type 0} {xs : List A} (k : ℕ) → All P xs → All P (drop k xs)
+  all-drop zero h = h
+  all-drop (suc k) none = none
+  all-drop (suc k) (more q h) = all-drop k h
+
+  keep-go : {P : A → Type 0} {xs : List A} (x : A) (b : Bool) → P x → All P xs → All P (cond b (x ∷ xs) xs)
+  keep-go x true q h = more q h
+  keep-go x false q h = h
+
+  pub all-keep : {P : A → Type 0} {xs : List A} (p : A → Bool) → All P xs → All P (keep p xs)
+  unfolding keep
+  all-keep p none = none
+  all-keep p (more {x} q h) = keep-go x (p x) q (all-keep p h)
+
+  -- the first of several
+  pub all-first : {P : A → Type 0} {x : A} {xs : List A} → All P (x ∷ xs) → P x
+  all-first (more q h) = q

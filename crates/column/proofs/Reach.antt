@@ -1,0 +1,170 @@
+-- A column that opening and entering gave: it is the column of the accepted lines, and they are within their limits.
+-- Assumes nothing.
+use mathlib.Core.Path.{_≡_, refl, sym, _∙_, ap, subst⁻¹}
+use mathlib.Core.Bool.{Bool, true, false, cond, not, _||_, false≢true}
+use mathlib.Core.List.{List, [], _∷_, _++_}
+use Prim.Native.Nat.{ℕ, _+_, _≤_, _<_}
+use native.Mathlib.Omega.{arith}
+use lib.Dec.{leb, ltb, eqb}
+use lib.ListN.{length, length-append}
+use borrow.Author.Tests.{leb-false, eqb-true, ne-eqb, not-false}
+use Rattle.reduction.specs.Numbers.{between}
+use Rattle.reduction.specs.Lists.{All, none}
+use Rattle.reduction.proofs.Tests.{limits}
+use Rattle.column.specs.declared.Line.{Line}
+use Rattle.column.specs.declared.Member.{Member}
+use Rattle.column.specs.declared.Column.{Column}
+use Rattle.column.specs.Accepted.{lastFloor, firstCondition, entryNumber, joined, acceptedFrom, accepted}
+use Rattle.column.specs.Column.{linesOf, columnOf, unopened, openedOf, enteredOf, after, Reached}
+use Rattle.column.specs.Sound.{InLimits, Sound}
+use Rattle.column.proofs.Lists.{all-more}
+use Rattle.column.proofs.Columns.{column-lines, column-size}
+
+-- where the number is 0, a condition that has a number does not hold, and the number of the later ones is 0
+passed : (b : Bool) (n later : ℕ) → 1 ≤ n → cond b n later ≡ 0 → (b ≡ false) × (later ≡ 0)
+passed true n later h e = absurd (omega arith)
+passed false n later h e = (refl, e)
+
+first-not : (a b : Bool) → (not a || b) ≡ false → a ≡ true
+first-not true b h = refl
+first-not false b h = absurd (false≢true (sym h))
+
+-- a line for which no condition holds is within its limits, and there is room for it
+pub no-condition : (m : Member) (held last : ℕ) (l : Line) → firstCondition m held last l ≡ 0 → (held < 256) × InLimits l
+unfolding firstCondition
+no-condition m held last l h =
+    let full = passed (leb 256 held) 2 _ (omega arith) h in
+    let floor = passed (not (between 1 64 (l .floor)) || ltb (l .floor) last) 3 _ (omega arith) (full .1) in
+    let class = passed (not (between 1 3 (l .class))) 4 _ (omega arith) (floor .1) in
+    let load = passed (not (between 1 50000 (l .load))) 5 _ (omega arith) (class .1) in
+    let area = passed (not (between 1 200000 (l .area .0))) 6 _ (omega arith) (load .1) in (
+      leb-false 256 held (full .0),
+      record {
+        floor = limits 1 64 (l .floor) (first-not (between 1 64 (l .floor)) (ltb (l .floor) last) (floor .0));
+        class = limits 1 3 (l .class) (not-false _ (class .0));
+        load = limits 1 50000 (l .load) (not-false _ (load .0));
+        area = limits 1 200000 (l .area .0) (not-false _ (area .0));
+      },
+    )
+
+-- lines that a column may hold
+pub record Holdable (ls : List Line) : Type 0 where
+  pub few : length ls ≤ 256
+  pub lines : All InLimits ls
+
+joined-holdable : (m : Member) (ls : List Line) (l : Line) → Holdable ls → Holdable (joined m ls l)
+unfolding joined entryNumber
+joined-holdable m ls l h = go (eqb (firstCondition m (length ls) (lastFloor ls) l) 0) refl
+  where
+    go : (b : Bool) → eqb (firstCondition m (length ls) (lastFloor ls) l) 0 ≡ b → Holdable (cond b (ls ++ (l ∷ [])) ls)
+    go true e =
+        let ok = no-condition m (length ls) (lastFloor ls) l (eqb-true _ 0 e) in
+        record { few = omega (arith, length-append ls (l ∷ []), ok .0); lines = all-more (h .lines) (ok .1) }
+    go false e = h
+
+accepted-from : (m : Member) (ls es : List Line) → Holdable ls → Holdable (acceptedFrom m ls es)
+unfolding acceptedFrom
+accepted-from m ls [] h = h
+accepted-from m ls (e ∷ es) h = accepted-from m (joined m ls e) es (joined-holdable m ls e h)
+
+-- the accepted lines are at most 256, and each is within its limits
+pub accepted-holdable : (m : Member) (es : List Line) → Holdable (accepted m es)
+accepted-holdable m es = accepted-from m [] es (record { few = omega arith; lines = none })
+
+-- entering a line where no condition holds, and where one does
+module _ (c : Column) (l : Line) where
+  pub entered-accepted : entryNumber (c .member) (linesOf c) l ≡ 0
+      → enteredOf c l ≡ record { number = 0; column = columnOf (c .member) (linesOf c ++ (l ∷ [])) }
+  unfolding enteredOf
+  entered-accepted e = rw e
+
+  pub entered-refused : (n : ℕ) → 1 ≤ n → entryNumber (c .member) (linesOf c) l ≡ n → enteredOf c l ≡ record { number = n; column = c }
+  unfolding enteredOf
+  entered-refused n h e = rw (e, ne-eqb n 0 (λ q. omega arith))
+
+-- entering a line on the column of some lines gives the column of the lines that are then accepted
+entered-column : (m : Member) (ls : List Line) (l : Line) → enteredOf (columnOf m ls) l .column ≡ columnOf m (joined m ls l)
+unfolding enteredOf joined columnOf
+entered-column m ls l = rw (column-lines m ls) (go (eqb (entryNumber m ls l) 0))
+  where
+    go : (b : Bool) → cond b (columnOf m (ls ++ (l ∷ []))) (columnOf m ls) ≡ columnOf m (cond b (ls ++ (l ∷ [])) ls)
+    go true = refl
+    go false = refl
+
+after-column : (m : Member) (ls es : List Line) → after (columnOf m ls) es ≡ columnOf m (acceptedFrom m ls es)
+unfolding after acceptedFrom
+after-column m ls [] = refl
+after-column m ls (e ∷ es) =
+    ap (λ (c : Column). after c es) (entered-column m ls e) ∙ after-column m (joined m ls e) es
+
+-- a member that was opened has a code, and no lines
+module _ (m : Member) where
+  opened-cases : (b : Bool) → between 1 12 (m .code) ≡ b → openedOf m .number ≡ 0
+      → (between 1 12 (m .code) ≡ true) × (openedOf m .column ≡ columnOf m [])
+  unfolding openedOf
+  opened-cases true e h = (e, rw e)
+  opened-cases false e h = absurd (omega (arith, rw e at h))
+
+  pub opened-code : openedOf m .number ≡ 0 → between 1 12 (m .code) ≡ true
+  opened-code h = opened-cases (between 1 12 (m .code)) refl h .0
+
+  pub opened-column : openedOf m .number ≡ 0 → openedOf m .column ≡ columnOf m []
+  opened-column h = opened-cases (between 1 12 (m .code)) refl h .1
+
+  -- the column after a list of entries is that of the accepted lines
+  pub after-opened : (es : List Line) → openedOf m .number ≡ 0 → after (openedOf m .column) es ≡ columnOf m (accepted m es)
+  after-opened es h = ap (λ (c : Column). after c es) (opened-column h) ∙ after-column m [] es
+
+-- what the private functions ask follows
+sound-column : (m : Member) (ls : List Line) → between 1 12 (m .code) ≡ true → Holdable ls → Sound (columnOf m ls)
+unfolding columnOf
+sound-column m ls e h =
+    record { code = e; few = h .few; size = column-size m ls (h .few); lines = rw (column-lines m ls) (h .lines) }
+
+reached-column : {c : Column} (r : Reached c) → c ≡ columnOf (r .member) (accepted (r .member) (r .entries))
+reached-column r = r .is ∙ after-opened (r .member) (r .entries) (r .opened)
+
+pub sound : {c : Column} → Reached c → Sound c
+sound r =
+    let m = r .member in
+    subst⁻¹ Sound (reached-column r) (sound-column m (accepted m (r .entries)) (opened-code m (r .opened)) (accepted-holdable m (r .entries)))
+
+-- a reached column is that of its member and its lines, so its unused places are as opening left them
+pub reached-is : {c : Column} → Reached c → c ≡ columnOf (c .member) (linesOf c)
+unfolding columnOf
+reached-is {c} r =
+    let m = r .member in
+    let ls = accepted m (r .entries) in
+    let e : c ≡ columnOf m ls = reached-column r in
+    e
+    ∙ (ap (columnOf m) (sym (ap linesOf e ∙ column-lines m ls))
+    ∙ ap (λ (k : Member). columnOf k (linesOf c)) (sym (ap (λ (d : Column). d .member) e)))
+
+-- so two with the same member and the same lines are one value
+pub same-column : {c d : Column} → Reached c → Reached d → c .member ≡ d .member → linesOf c ≡ linesOf d → c ≡ d
+same-column {c} {d} r s e f =
+    reached-is r ∙ (ap (λ (m : Member). columnOf m (linesOf c)) e ∙ (ap (columnOf (d .member)) f ∙ sym (reached-is s)))
+
+-- what a refused opening gives is not a reached column
+pub unopened-not-reached : Reached unopened → ⊥
+unfolding columnOf
+unopened-not-reached r = false≢true (sound r .code)
+
+-- opening a member gives a reached column, and entering a line on a reached column gives another
+pub reached-opened : (m : Member) → between 1 12 (m .code) ≡ true → Reached (columnOf m [])
+unfolding openedOf after
+reached-opened m e = record { member = m; entries = []; opened = rw e; is = rw e }
+
+after-more : (c : Column) (es : List Line) (l : Line) → after c (es ++ (l ∷ [])) ≡ enteredOf (after c es) l .column
+unfolding after
+after-more c [] l = refl
+after-more c (e ∷ es) l = after-more (enteredOf c e .column) es l
+
+pub reached-entered : {c : Column} (l : Line) → Reached c → Reached (enteredOf c l .column)
+reached-entered {c} l r =
+    record {
+      member = r .member;
+      entries = r .entries ++ (l ∷ []);
+      opened = r .opened;
+      is = ap (λ (d : Column). enteredOf d l .column) (r .is) ∙ sym (after-more (openedOf (r .member) .column) (r .entries) l);
+    }

@@ -1,0 +1,102 @@
+-- `column::conditions::verdict_of` meets its contract: each way out picks its number, those before it not holding. Assumes nothing.
+use mathlib.Core.Path.{_≡_}
+use mathlib.Core.Bool.{true, false}
+use native.Mathlib.Omega.{arith}
+use lib.Dec.{leb, ltb}
+use borrow.Author.Tests.{le-leb, lt-leb, lt-ltb, le-ltb}
+use Rattle.refusal.specs.Refusal.{numberOf}
+use Rattle.reduction.specs.Numbers.{between}
+use Rattle.reduction.proofs.Tests.{passed, failed}
+use Rattle.column.specs.Accepted.{firstCondition}
+use Rattle.column.specs.Column.{verdictNumber}
+use borrow.Author.Needs.{needs}
+use Rattle.column.proofs.conditions.verdict_of.Statement.{statement}
+use Rattle.column.proofs.conditions.verdict_of.Tie as tie
+
+-- what each test that was passed says
+room : (c : tie.Else1) → leb 256 (c .before .args .held) ≡ false
+room c = lt-leb 256 (c .before .args .held) (omega arith)
+
+floor-known : (c : tie.Else2) → between 1 64 (c .before .before .before .args .line .floor) ≡ true
+floor-known c = passed (c .before .is-between .ensures) (c .if2 .left)
+
+not-above : (c : tie.Else3) → ltb (c .before .before .before .before .before .args .line .floor) (c .before .before .before .before .before .args .last) ≡ false
+not-above c =
+    let at = c .before .before .before .before .before .args in
+    le-ltb (at .line .floor) (at .last) (omega arith)
+
+class-known : (c : tie.Else4) → between 1 3 (c .before .before .before .before .before .before .before .args .line .class) ≡ true
+class-known c = passed (c .before .is-between2 .ensures) (c .if4 .left)
+
+load-known : (c : tie.Else5) → between 1 50000 (c .before .before .before .before .before .before .before .before .before .args .line .load) ≡ true
+load-known c = passed (c .before .is-between3 .ensures) (c .if5 .left)
+
+returns : tie.Need-returns
+unfolding verdictNumber numberOf firstCondition
+returns c = λ m. rw (le-leb 256 (c .before .args .held) (omega arith))
+
+is-between-requires : tie.Need-is-between-requires
+is-between-requires c κs = search needs
+
+returns-2 : tie.Need-returns-2
+unfolding verdictNumber numberOf firstCondition
+returns-2 c = λ m. rw (room (c .before .before), failed (c .before .is-between .ensures) (c .if2 .taken))
+
+returns-3 : tie.Need-returns-3
+unfolding verdictNumber numberOf firstCondition
+returns-3 c = λ m.
+    rw (room (c .before .before .before .before), floor-known (c .before .before), lt-ltb (c .before .before .before .before .before .args .line .floor) (c .before .before .before .before .before .args .last) (omega arith))
+
+is-between-requires-2 : tie.Need-is-between-requires-2
+is-between-requires-2 c κs = search needs
+
+returns-4 : tie.Need-returns-4
+unfolding verdictNumber numberOf firstCondition
+returns-4 c = λ m.
+    let d = c .before .before in
+    rw (room (d .before .before .before .before), floor-known (d .before .before), not-above d, failed (c .before .is-between2 .ensures) (c .if4 .taken))
+
+is-between-requires-3 : tie.Need-is-between-requires-3
+is-between-requires-3 c κs = search needs
+
+returns-5 : tie.Need-returns-5
+unfolding verdictNumber numberOf firstCondition
+returns-5 c = λ m.
+    let e = c .before .before in
+    let d = e .before .before in
+    rw (room (d .before .before .before .before), floor-known (d .before .before), not-above d, class-known e, failed (c .before .is-between3 .ensures) (c .if5 .taken))
+
+is-between-requires-4 : tie.Need-is-between-requires-4
+is-between-requires-4 c κs = search needs
+
+returns-6 : tie.Need-returns-6
+unfolding verdictNumber numberOf firstCondition
+returns-6 c = λ m.
+    let f = c .before .before in
+    let e = f .before .before in
+    let d = e .before .before in
+    rw (room (d .before .before .before .before), floor-known (d .before .before), not-above d, class-known e, load-known f, failed (c .before .is-between4 .ensures) (c .if6 .taken))
+
+returns-7 : tie.Need-returns-7
+unfolding verdictNumber numberOf firstCondition
+returns-7 c = λ m.
+    let f = c .before .before in
+    let e = f .before .before in
+    let d = e .before .before in
+    rw (room (d .before .before .before .before), floor-known (d .before .before), not-above d, class-known e, load-known f, passed (c .before .is-between4 .ensures) (c .if6 .left))
+
+pub verdict-of-spec : {M : Type 1} → statement M
+verdict-of-spec =
+    tie.close
+    (tie.spec
+    returns
+    is-between-requires
+    returns-2
+    returns-3
+    is-between-requires-2
+    returns-4
+    is-between-requires-3
+    returns-5
+    is-between-requires-4
+    returns-6
+    returns-7)

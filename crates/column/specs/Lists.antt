@@ -1,0 +1,20 @@
+-- Choices and sums over a list.
+-- Assumes nothing.
+use mathlib.Core.Bool.{Bool, false, cond, _||_}
+use mathlib.Core.List.{List, [], _∷_}
+use Prim.Native.Nat.{ℕ, _+_}
+
+-- the elements that pass a test, in order
+unfoldable pub keep : {A : Type 0} → (A → Bool) → List A → List A
+keep p [] = []
+keep p (x ∷ xs) = cond (p x) (x ∷ keep p xs) (keep p xs)
+
+-- some element passes a test
+unfoldable pub some : {A : Type 0} → (A → Bool) → List A → Bool
+some p [] = false
+some p (x ∷ xs) = p x || some p xs
+
+-- the sum of a number of each element
+unfoldable pub total : {A : Type 0} → (A → ℕ) → List A → ℕ
+total f [] = 0
+total f (x ∷ xs) = f x + total f xs

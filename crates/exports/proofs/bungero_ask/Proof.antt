@@ -1,0 +1,37 @@
+-- `exports::bungero_ask` meets its contract. Assumes nothing.
+use mathlib.Core.Path.{sym, _∙_, ap}
+use Prim.Native.Nat.{ℕ}
+use Rattle.refusal.specs.Said.{refused}
+use Rattle.column.specs.declared.Asked.{Asked}
+use Rattle.column.specs.Column.{saidWorking}
+use Rattle.exports.specs.Exported.{shownOf}
+use borrow.Author.Needs.{needs}
+use Rattle.exports.proofs.bungero_ask.Statement.{statement}
+use Rattle.exports.proofs.bungero_ask.Tie as tie
+
+ask-requires : tie.Need-ask-requires
+ask-requires c κs = search needs
+
+enum-known-asked : tie.Need-enum-known-asked
+enum-known-asked c = search needs
+
+enum-known-asked-2 : tie.Need-enum-known-asked-2
+enum-known-asked-2 c = search needs
+
+number-requires : tie.Need-number-requires
+number-requires c κs = search needs
+
+returns : tie.Need-returns
+unfolding shownOf saidWorking
+returns c = ap (λ (a : Asked). shownOf (saidWorking a)) (sym (c .before .asked .given .1)) ∙ ap shownOf (c .before .before .before .ask .ensures)
+
+returns-2 : tie.Need-returns-2
+unfolding shownOf saidWorking
+returns-2 c =
+    ap (λ (n : ℕ). shownOf (refused n)) (c .number .ensures)
+    ∙ (ap (λ (a : Asked). shownOf (saidWorking a)) (sym (c .before .before .asked2 .given .1)) ∙ ap shownOf (c .before .before .before .before .ask .ensures))
+
+pub bungero-ask-spec : {M : Type 1} → statement M
+bungero-ask-spec =
+    tie.close
+    (tie.spec ask-requires enum-known-asked enum-known-asked-2 number-requires returns returns-2)

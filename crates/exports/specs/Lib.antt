@@ -1,0 +1,2 @@
+-- What the exported structs say.
+pub mod Exported

@@ -1,0 +1,115 @@
+// Answers questions about one column at a time, and keeps the numbers entered since it was opened.
+ghost use Prim.Native.Nat.{_≤_};
+ghost use Rattle.column.specs.Column.{Reached};
+use crate::print;
+use column::Asked;
+use column::Column;
+use column::Line;
+use column::Verdict;
+use reduction::TributaryArea;
+
+// Room for the numbers of 300 entries.
+const ROOM: usize = 1200;
+
+// The column, the code that was asked for last, and the numbers entered since.
+pub struct State {
+    pub column: Column,
+    pub code: u64,
+    pub count: usize,
+    pub numbers: [u64; ROOM],
+}
+
+// A state with this column, of which no numbers are kept.
+pub fn state_of(column: Column, code: u64) -> State
+    requires { ⌜ Reached column ⌝ }
+    ensures { λ r. ⌜ Reached (r .column) ⌝ }
+{
+    State {
+        column: column,
+        code: code,
+        count: 0,
+        numbers: [0; ROOM],
+    }
+}
+
+// Opens a member; a refused one leaves the column.
+pub fn open(state: State, code: u64) -> State
+    requires { ⌜ Reached (state .column) ⌝ }
+    ensures { λ r. ⌜ Reached (r .column) ⌝ }
+{
+    let opened = column::open(code);
+    let verdict = opened.verdict;
+    print::print_verdict(verdict);
+    match verdict {
+        Verdict::Accepted => {
+            let next = opened.column;
+            state_of(next, code)
+        }
+        Verdict::Refused(_) => {
+            let kept = state.column;
+            state_of(kept, code)
+        }
+    }
+}
+
+// Enters a line, and keeps its numbers, accepted or not.
+pub fn enter(state: State, floor: u64, class: u64, load: u64, area: u64) -> State
+    requires { ⌜ Reached (state .column) ⌝ }
+    ensures { λ r. ⌜ Reached (r .column) ⌝ }
+{
+    let line = Line {
+        floor: floor,
+        class: class,
+        load: load,
+        area: TributaryArea(area),
+    };
+    let changed = column::enter(state.column, line);
+    let verdict = changed.verdict;
+    print::print_verdict(verdict);
+    let mut next = state;
+    let column = changed.column;
+    next.column = column;
+    let at = state.count;
+    if at <= ROOM - 4 {
+        next.numbers[at] = floor;
+        next.numbers[at + 1] = class;
+        next.numbers[at + 2] = load;
+        next.numbers[at + 3] = area;
+        next.count = at + 4;
+    }
+    next
+}
+
+// Asks the column at a floor.
+pub fn ask(state: State, floor: u64)
+    requires { ⌜ Reached (state .column) ⌝ }
+{
+    print::print_asked(column::ask(state.column, floor));
+}
+
+// How many of the numbers are left where the last few are left off.
+fn left(count: usize, off: u64) -> usize
+    ensures { λ r. ⌜ r ≤ 1200 ⌝ }
+{
+    if ROOM < count {
+        return 0;
+    }
+    if count as u64 <= off {
+        return 0;
+    }
+    count - off as usize
+}
+
+// What asking at a floor gives after the first so many numbers of a list.
+fn asked_after(code: u64, numbers: [u64; ROOM], end: usize, floor: u64) -> Asked
+    requires { ⌜ end ≤ 1200 ⌝ }
+{
+    column::figure_after(code, &numbers[..end], floor)
+}
+
+// Asks at a floor after the whole list of numbers, of which the last few are left off.
+pub fn list(state: State, floor: u64, off: u64) {
+    let numbers = state.numbers;
+    let end = left(state.count, off);
+    print::print_asked(asked_after(state.code, numbers, end, floor));
+}
