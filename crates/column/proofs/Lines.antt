@@ -111,7 +111,7 @@ found-more {ls} {seen} {n} {area} l h c =
     go k q true e = rw (← eqb-true (l .floor) k e) (getD-set-same seen (l .floor) true false (omega (arith, c .size)))
     go k q false e = getD-set-other seen (l .floor) k true false (λ w. eqb-false (l .floor) k e (sym w)) ∙ c .marks k q
 
--- the lines from index i on: all of them, none, and with the line before index i
+-- the lines from index i on, of which there are none from the count on
 abbrev pub from : Column → ℕ → List Line
 from c i = drop i (linesOf c)
 
