@@ -36,11 +36,10 @@ const FOUR_UNITS: u64 = 4194304;
 // (914 × 2²⁰)², the square of a scale times 25 X.
 const ROOT_SQUARE: u64 = 918527615797559296;
 
-// About 914 / (5 √X) units, by four of Newton's steps from a middle value; small enough to multiply
-// a load.
+// About 914 / (5 √X) units, by four of Newton's steps from a middle value.
 fn root_scale(x: InfluenceArea) -> u64
     requires { ⌜ (3713 ≤ x .0) × (x .0 ≤ 92821) ⌝ }
-    ensures { λ r. ⌜ (r ≡ newtons (sq (914 * 2 ^ 20) / (25 * x .0))) × (r ≤ 2 ^ 48) ⌝ }
+    ensures { λ r. ⌜ r ≡ newtons (sq (914 * 2 ^ 20) / (25 * x .0)) ⌝ }
 {
     let square = ROOT_SQUARE / (25 * x.0);
     let a = (1400000 + square / 1400000) / 2;

@@ -1,9 +1,10 @@
 -- `reduction::rounding::root_scale` meets its contract: a step at most halves, so no divisor is 0, and no quotient passes what is divided.
 -- Assumes nothing.
 use mathlib.Core.Path.{refl}
-use Prim.Native.Nat.{ℕ, _+_, _*_, _/_, _^_, _≤_}
+use Prim.Native.Nat.{ℕ, _*_, _/_, _^_, _≤_}
 use native.Mathlib.Nat.{div-le-self, div-le-of-le-mul}
 use native.Mathlib.Omega.{arith}
+use Rattle.reduction.specs.Estimate.{newton}
 use borrow.Author.Needs.{needs}
 use Rattle.reduction.proofs.rounding.root_scale.Statement.{statement}
 use Rattle.reduction.proofs.rounding.root_scale.Tie as tie
@@ -11,18 +12,15 @@ use Rattle.reduction.proofs.rounding.root_scale.Tie as tie
 abbrev square : tie.Start → ℕ
 square s = 918527615797559296 / (25 * s .args .x .0)
 
--- one of Newton's steps, and the first three
-abbrev step : ℕ → ℕ → ℕ
-step m r = (r + m / r) / 2
-
+-- the first three of Newton's steps
 abbrev a : tie.Start → ℕ
-a s = step (square s) 1400000
+a s = newton (square s) 1400000
 
 abbrev b : tie.Start → ℕ
-b s = step (square s) (a s)
+b s = newton (square s) (a s)
 
 abbrev d : tie.Start → ℕ
-d s = step (square s) (b s)
+d s = newton (square s) (b s)
 
 sizes : (s : tie.Start)
     → (square s ≤ 2 ^ 44) × (square s / a s ≤ square s) × (square s / b s ≤ square s) × (square s / d s ≤ square s)
@@ -57,7 +55,7 @@ add-result : tie.Need-add-result
 add-result c = omega (arith, sizes (c .before))
 
 returns : tie.Need-returns
-returns c = (refl, omega (arith, sizes (c .before)))
+returns c = refl
 
 pub root-scale-spec : {M : Type 1} → statement M
 root-scale-spec =

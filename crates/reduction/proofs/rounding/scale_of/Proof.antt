@@ -21,7 +21,7 @@ returns c = search needs
 
 returns-2 : tie.Need-returns-2
 unfolding estimate
-returns-2 c = rw (c .before .before .share .given .1) (c .root-scale .ensures .0)
+returns-2 c = rw (c .before .before .share .given .1) (c .root-scale .ensures)
 
 pub scale-of-spec : {M : Type 1} → statement M
 scale-of-spec =
