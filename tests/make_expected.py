@@ -11,9 +11,9 @@ TESTS = Path(__file__).resolve().parent
 ROOT = TESTS.parent
 sys.path.insert(0, str(TESTS))
 
-from reckoning import trial
+from reckoning import trial, trial_combination
 
-TRIALS = (trial,)
+TRIALS = (trial, trial_combination)
 
 
 def expected_files():
@@ -55,6 +55,13 @@ def complaint(place, made):
     return f"{place}: differs at {first_difference(stored, made)}"
 
 
+def tallies():
+    """The cases of all trials, then what each trial counts for itself, by name."""
+    cases = sum(each.case_count() for each in TRIALS)
+    own = [f"{count} {name}" for each in TRIALS for name, count in each.tally().items()]
+    return ", ".join((f"{cases} cases", *own))
+
+
 def check(expected):
     """Compares the stored texts with the reckoned ones; gives the exit status."""
     complaints = [said for said in (complaint(*entry) for entry in expected.items()) if said]
@@ -62,9 +69,7 @@ def check(expected):
         print(said)
     if complaints:
         return 1
-    cases = sum(each.case_count() for each in TRIALS)
-    columns = sum(each.column_count() for each in TRIALS)
-    print(f"{len(expected)} files compared, {cases} cases, {columns} columns, no difference")
+    print(f"{len(expected)} files compared, {tallies()}, no difference")
     return 0
 
 

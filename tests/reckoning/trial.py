@@ -33,3 +33,8 @@ def case_count():
 def column_count():
     """How many columns the questions open."""
     return trial_column.column_count()
+
+
+def tally():
+    """What the questions are about, counted."""
+    return {"columns": column_count()}

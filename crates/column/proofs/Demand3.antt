@@ -7,7 +7,7 @@ use Prim.Native.Nat.{ℕ, _≤_}
 use native.Mathlib.Omega.{arith}
 use borrow.Author.Tests.{ne-eqb}
 use Rattle.refusal.specs.Said.{refused}
-use Rattle.reduction.specs.Lists.{All}
+use Rattle.refusal.specs.Lists.{All}
 use Rattle.column.specs.declared.Line.{Line}
 use Rattle.column.specs.declared.Member.{Member}
 use Rattle.column.specs.Line.{carried, hasFloor}

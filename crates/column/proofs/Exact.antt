@@ -13,7 +13,7 @@ use Rattle.reduction.specs.declared.InfluenceArea.{InfluenceArea}
 use Rattle.reduction.specs.declared.share.Share.{Share}
 use Rattle.reduction.specs.declared.share.Share.the-variants.{Twentieths, Root}
 use Rattle.reduction.specs.Numbers.{sq}
-use Rattle.reduction.specs.Lists.{All, none, more}
+use Rattle.refusal.specs.Lists.{All, none, more}
 use Rattle.reduction.specs.Share.{isFormula, formulaShare, otherTwentieths, shareOf, AtMostOne}
 use Rattle.reduction.specs.Reduced.{reaches, reduced}
 use Rattle.reduction.proofs.Squares.{sq-mul, sq-five}

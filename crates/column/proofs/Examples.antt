@@ -2,7 +2,7 @@
 -- Assumes nothing.
 use mathlib.Core.Path.{refl}
 use Rattle.reduction.specs.Numbers.{leastFrom}
-use Rattle.reduction.specs.Lists.{All, none, more}
+use Rattle.refusal.specs.Lists.{All, none, more}
 use Rattle.reduction.specs.Member.{table4·2, tableFactor}
 use Rattle.reduction.specs.Share.{isFormula, oneFloor, rootAtLeast, rootAtMost, leastTwentieths, formulaShare, otherTwentieths, shareOf}
 use Rattle.reduction.specs.Reduced.{reaches, reduced}

@@ -10,7 +10,7 @@ use lib.Dec.{leb, eqb}
 use lib.ListN.{length, take, drop, getD, set, replicate, length-map, length-set, length-replicate, getD-replicate, drop-of-length-le, List·getD-map}
 use lib.Seq.{length-take-le, drop-cons, getD-take, getD-set-same, getD-set-other}
 use borrow.Author.Tests.{leb-false, le-leb, lt-leb, eqb-true, eqb-false, ne-eqb}
-use Rattle.reduction.specs.Lists.{All, none, more}
+use Rattle.refusal.specs.Lists.{All, none, more}
 use Rattle.column.specs.declared.Line.{Line}
 use Rattle.column.specs.declared.Held.{Held}
 use Rattle.column.specs.declared.Column.{Column}

@@ -6,7 +6,7 @@ use mathlib.Core.List.{List, [], _∷_, _++_}
 use Prim.Native.Nat.{ℕ, zero, suc, _+_}
 use native.Mathlib.Nat.{zero-add}
 use lib.ListN.{drop}
-use Rattle.reduction.specs.Lists.{All, none, more}
+use Rattle.refusal.specs.Lists.{All, none, more}
 use Rattle.column.specs.Lists.{keep, total}
 
 module _ {A : Type 0} where

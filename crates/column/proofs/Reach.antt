@@ -9,7 +9,7 @@ use lib.Dec.{leb, ltb, eqb}
 use lib.ListN.{length, length-append}
 use borrow.Author.Tests.{leb-false, eqb-true, ne-eqb, not-false}
 use Rattle.reduction.specs.Numbers.{between}
-use Rattle.reduction.specs.Lists.{All, none}
+use Rattle.refusal.specs.Lists.{All, none}
 use Rattle.reduction.proofs.Tests.{limits}
 use Rattle.column.specs.declared.Line.{Line}
 use Rattle.column.specs.declared.Member.{Member}

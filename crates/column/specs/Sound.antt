@@ -5,7 +5,7 @@ use mathlib.Core.Bool.{true, cond}
 use Prim.Native.Nat.{ℕ, _≤_}
 use lib.ListN.{length}
 use Rattle.reduction.specs.Numbers.{between}
-use Rattle.reduction.specs.Lists.{All}
+use Rattle.refusal.specs.Lists.{All}
 use Rattle.column.specs.declared.Line.{Line}
 use Rattle.column.specs.declared.Column.{Column}
 use Rattle.column.specs.Line.{isFormulaLine}

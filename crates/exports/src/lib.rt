@@ -1,12 +1,17 @@
-// Opening, entering and asking for programs in C and Rust: answers as structs of numbers.
+// Opening, entering, asking and combining for programs in C and Rust: answers as structs of numbers.
 ghost use mathlib.Core.Path.{_≡_};
 ghost use Rattle.column.specs.Line.{line};
 ghost use Rattle.column.specs.Column.{memberOf, openedOf, enteredOf, Reached, asked, outcome};
-ghost use Rattle.exports.specs.Exported.{outcomeOf, shownOf};
+ghost use Rattle.combination.specs.Combine.{combinedOf};
+ghost use Rattle.exports.specs.Exported.{noRow, outcomeOf, shownOf, shownCombined};
 use column::Asked;
 use column::Changed;
 use column::Column;
 use column::Line;
+use combination::Combined;
+use combination::Governing;
+use combination::GoverningRow;
+use effects::Effects;
 use reduction::TributaryArea;
 
 // What opening or entering gives: the paper's number, 0 where none holds, and the column.
@@ -24,6 +29,16 @@ pub struct BungeroFigure {
     pub floors: u64,
     pub influence: u64,
     pub figure: u64,
+}
+
+// What combining gives: the paper's number, 0 where none holds; the place of the refused effect, 1 for
+// dead to 7 for quake, and its double as it came; or the governing rows. The rest is 0.
+#[repr(C)]
+pub struct BungeroCombined {
+    pub number: u64,
+    pub place: u64,
+    pub double: f64,
+    pub governing: Governing,
 }
 
 // The number and the column of what opening or entering gave.
@@ -87,5 +102,46 @@ pub extern "C" fn bungero_ask(column: Column, floor: u64) -> BungeroFigure
             influence: 0,
             figure: 0,
         },
+    }
+}
+
+// What stands for a governing row where an effect is refused.
+fn no_row() -> GoverningRow
+    ensures { λ r. ⌜ r ≡ noRow ⌝ }
+{
+    GoverningRow {
+        row: 0,
+        tenths: 0,
+        double: 0.0,
+    }
+}
+
+// Combines seven effects.
+#[no_mangle]
+pub extern "C" fn bungero_combine(effects: Effects) -> BungeroCombined
+    ensures { λ r. ⌜ r ≡ shownCombined (combinedOf effects) ⌝ }
+{
+    let combined = combination::combine(effects);
+    match combined {
+        Combined::Governs(governing) => BungeroCombined {
+            number: 0,
+            place: 0,
+            double: 0.0,
+            governing: governing,
+        },
+        Combined::Refused(refused) => {
+            let refusal = refused.refusal;
+            let effect = refused.effect;
+            let load = effect.load;
+            BungeroCombined {
+                number: refusal::number(refusal),
+                place: effects::place(load),
+                double: effect.double,
+                governing: Governing {
+                    greatest: no_row(),
+                    least: no_row(),
+                },
+            }
+        }
     }
 }

@@ -1,6 +1,5 @@
 -- The definitions of the reduction; paper 01 in its order, then what private functions ask.
 pub mod Numbers
-pub mod Lists
 pub mod Member
 pub mod Share
 pub mod Reduced

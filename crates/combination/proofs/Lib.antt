@@ -1,0 +1,6 @@
+-- Laws of sums, of the table, of the rows that govern, and of the whole answer.
+pub mod Sums
+pub mod Table
+pub mod Governs
+pub mod Answers
+pub mod Examples

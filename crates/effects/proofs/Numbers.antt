@@ -1,0 +1,86 @@
+-- Numbers that 64 bits keep, and seven of them. Assumes nothing.
+use mathlib.Core.Path.{_≡_, refl, _∙_}
+use mathlib.Core.Bool.{Bool, true, _&&_}
+use mathlib.Core.List.{List, [], _∷_}
+use Prim.Native.Nat.{ℕ, zero, suc, zero-le, _^_, _≤_, _<_}
+use native.Mathlib.Nat.{le-refl, lt-of-le-of-lt}
+use native.Mathlib.Omega.{arith}
+use lib.Dec.{T, leb, eqb, leb→le, le→leb, eqb→eq}
+use lib.IntN.{ℤ, pos, negsuc, negℤ, natAbs}
+use lib.ListN.{length, getD, drop, set, replicate, length-set, drop-of-length-le}
+use lib.Seq.{drop-cons}
+use lib.Signed.{mag}
+use lib.Ieee.Fits.{and-l, and-r}
+use mir.Syntax.{w64}
+use mir.Val.{SFits, toZ, ofZ}
+use mir.ValLaws.{toZ-ofZ}
+use Rattle.effects.specs.Fit.{EachAtMost, Seven}
+
+-- ---- the size of a number, and those that 64 bits keep
+
+pub size-neg : (n : ℕ) → natAbs (negℤ (pos n)) ≡ n
+size-neg zero = refl
+size-neg (suc n) = refl
+
+mag-le : (z : ℤ) → mag z ≤ natAbs z
+mag-le (pos n) = le-refl n
+mag-le (negsuc n) = omega arith
+
+pub small-fits : {z : ℤ} {n : ℕ} → natAbs z ≤ n → n < 2 ^ 63 → SFits w64 z
+small-fits {z} {n} h k = record { sfits = lt-of-le-of-lt (mag-le z) (lt-of-le-of-lt h k) }
+
+pub kept : {z : ℤ} {n : ℕ} → natAbs z ≤ n → n < 2 ^ 63 → toZ w64 (ofZ w64 z) ≡ z
+kept {z} h k = toZ-ofZ w64 z (small-fits h k)
+
+-- ---- seven numbers, each at most so large in size
+
+-- seven numbers are those at their indices
+pub seven-is : (xs : List ℤ) → length xs ≡ 7
+    → xs ≡ getD xs 0 (pos 0) ∷ getD xs 1 (pos 0) ∷ getD xs 2 (pos 0) ∷ getD xs 3 (pos 0) ∷ getD xs 4 (pos 0) ∷ getD xs 5 (pos 0) ∷ getD xs 6 (pos 0) ∷ []
+seven-is xs h =
+    let at : (k : ℕ) → k < 7 → drop k xs ≡ getD xs k (pos 0) ∷ drop (suc k) xs = λ k l. drop-cons xs k (pos 0) (omega arith) in
+    let e0 : xs ≡ getD xs 0 (pos 0) ∷ drop 1 xs = at 0 (omega arith) in
+    cc (at 1 (omega arith), at 2 (omega arith), at 3 (omega arith), at 4 (omega arith), at 5 (omega arith), at 6 (omega arith), drop-of-length-le xs {i = 7} (omega arith))
+
+-- seven zeros, and seven with one set anew
+pub seven-zeros : {most : ℕ} → Seven most (replicate 7 (pos 0))
+seven-zeros {most} = record { count = refl; each = go 7 }
+  where
+    go : (n : ℕ) → EachAtMost most (replicate n (pos 0))
+    go zero k = omega arith
+    go (suc n) zero = omega arith
+    go (suc n) (suc k) = go n k
+
+pub seven-set : {most : ℕ} (xs : List ℤ) (i : ℕ) (z : ℤ) → Seven most xs → natAbs z ≤ most → Seven most (set xs i z)
+seven-set {most} xs i z s h = record { count = length-set xs i z ∙ s .count; each = go xs i (s .each) }
+  where
+    go : (l : List ℤ) (j : ℕ) → EachAtMost most l → EachAtMost most (set l j z)
+    go [] j f k = f k
+    go (x ∷ l) zero f zero = h
+    go (x ∷ l) zero f (suc k) = f (suc k)
+    go (x ∷ l) (suc j) f zero = f 0
+    go (x ∷ l) (suc j) f (suc k) = go l j (λ m. f (suc m)) k
+
+-- ---- the same by a test that computes
+
+-- every element passes a test
+abbrev pub every : {A : Type 0} → (A → Bool) → List A → Bool
+every p [] = true
+every p (x ∷ xs) = p x && every p xs
+
+-- so does the one at an index, and what stands past the end where it passes
+pub at : {A : Type 0} (p : A → Bool) (xs : List A) → T (every p xs) → (i : ℕ) (d : A) → (length xs ≤ i → T (p d)) → T (p (getD xs i d))
+at p [] t i d h = h (omega arith)
+at p (x ∷ xs) t zero d h = and-l (p x) (every p xs) t
+at p (x ∷ xs) t (suc i) d h = at p xs (and-r (p x) (every p xs) t) i d (λ l. h (omega arith))
+
+abbrev pub sevenTest : ℕ → List ℤ → Bool
+sevenTest most xs = eqb (length xs) 7 && every (λ z. leb (natAbs z) most) xs
+
+pub seven-of : (most : ℕ) (xs : List ℤ) → T (sevenTest most xs) → Seven most xs
+seven-of most xs t =
+    let small : T (every (λ z. leb (natAbs z) most) xs) = and-r (eqb (length xs) 7) (every (λ z. leb (natAbs z) most) xs) t in
+    record {
+      count = eqb→eq (length xs) 7 (and-l (eqb (length xs) 7) (every (λ z. leb (natAbs z) most) xs) t);
+      each = λ k. leb→le (natAbs (getD xs k (pos 0))) most (at (λ z. leb (natAbs z) most) xs small k (pos 0) (λ l. le→leb 0 most zero-le));
+    }

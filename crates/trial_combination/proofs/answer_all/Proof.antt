@@ -1,0 +1,59 @@
+-- `trial_combination::answer_all` meets its contract: each line ends within the text. Assumes nothing.
+use Prim.Native.Nat.{_-_}
+use lib.ListN.{length}
+use borrow.Author.Needs.{needs}
+use Rattle.trial_combination.proofs.answer_all.Statement.{statement}
+use Rattle.trial_combination.proofs.answer_all.Tie as tie
+
+abbrev Inv-loop : tie.InvT-loop
+Inv-loop text at₀ at = Unit {0}
+
+abbrev μ-loop : tie.MeasureT-loop
+μ-loop text at₀ at = length text - at
+
+loop-holds : tie.Need-loop-holds Inv-loop μ-loop
+loop-holds c = search needs
+
+find-requires : tie.Need-find-requires Inv-loop μ-loop
+find-requires c κs = search needs
+
+sub-answer : tie.Need-sub-answer Inv-loop μ-loop
+sub-answer c = search needs
+
+part-answer-start : tie.Need-part-answer-start Inv-loop μ-loop
+part-answer-start c = search needs
+
+part-answer-end : tie.Need-part-answer-end Inv-loop μ-loop
+part-answer-end c = search needs
+
+answer-requires : tie.Need-answer-requires Inv-loop μ-loop
+answer-requires c κs = search needs
+
+add-at : tie.Need-add-at Inv-loop μ-loop
+add-at c = search needs
+
+loop-less : tie.Need-loop-less Inv-loop μ-loop
+loop-less c = search needs
+
+loop-again : tie.Need-loop-again Inv-loop μ-loop
+loop-again c = search needs
+
+returns : tie.Need-returns Inv-loop μ-loop
+returns c = search needs
+
+pub answer-all-spec : {M : Type 1} → statement M
+answer-all-spec =
+    tie.close
+    (tie.spec
+    Inv-loop
+    μ-loop
+    loop-holds
+    find-requires
+    sub-answer
+    part-answer-start
+    part-answer-end
+    answer-requires
+    add-at
+    loop-less
+    loop-again
+    returns)
