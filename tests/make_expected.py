@@ -11,9 +11,9 @@ TESTS = Path(__file__).resolve().parent
 ROOT = TESTS.parent
 sys.path.insert(0, str(TESTS))
 
-from reckoning import trial, trial_combination
+from reckoning import trial, trial_combination, trial_sheet
 
-TRIALS = (trial, trial_combination)
+TRIALS = (trial, trial_combination, trial_sheet)
 
 
 def expected_files():

@@ -5,6 +5,8 @@ pub mod Exact
 pub mod Lines
 pub mod Columns
 pub mod Reach
+pub mod InTurn
+pub mod Most
 pub mod Demand3
 pub mod Entries
 pub mod Examples

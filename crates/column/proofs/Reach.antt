@@ -52,32 +52,40 @@ pub record Holdable (ls : List Line) : Type 0 where
   pub few : length ls ≤ 256
   pub lines : All InLimits ls
 
-joined-holdable : (m : Member) (ls : List Line) (l : Line) → Holdable ls → Holdable (joined m ls l)
-unfolding joined entryNumber
-joined-holdable m ls l h = go (eqb (firstCondition m (length ls) (lastFloor ls) l) 0) refl
-  where
-    go : (b : Bool) → eqb (firstCondition m (length ls) (lastFloor ls) l) 0 ≡ b → Holdable (cond b (ls ++ (l ∷ [])) ls)
-    go true e =
-        let ok = no-condition m (length ls) (lastFloor ls) l (eqb-true _ 0 e) in
-        record { few = omega (arith, length-append ls (l ∷ []), ok .0); lines = all-more (h .lines) (ok .1) }
-    go false e = h
+-- what stays true of some lines when one more joins them that is accepted after them
+module _ (m : Member) (P : List Line → Type 0) (step : (ls : List Line) (l : Line) → P ls → entryNumber m ls l ≡ 0 → P (ls ++ (l ∷ []))) where
+  joined-all : (ls : List Line) (l : Line) → P ls → P (joined m ls l)
+  unfolding joined
+  joined-all ls l h = go (eqb (entryNumber m ls l) 0) refl
+    where
+      go : (b : Bool) → eqb (entryNumber m ls l) 0 ≡ b → P (cond b (ls ++ (l ∷ [])) ls)
+      go true e = step ls l h (eqb-true (entryNumber m ls l) 0 e)
+      go false e = h
 
-accepted-from : (m : Member) (ls es : List Line) → Holdable ls → Holdable (acceptedFrom m ls es)
-unfolding acceptedFrom
-accepted-from m ls [] h = h
-accepted-from m ls (e ∷ es) h = accepted-from m (joined m ls e) es (joined-holdable m ls e h)
+  -- it is true of the accepted lines, where it is of those that there were
+  pub accepted-all : (ls es : List Line) → P ls → P (acceptedFrom m ls es)
+  unfolding acceptedFrom
+  accepted-all ls [] h = h
+  accepted-all ls (e ∷ es) h = accepted-all (joined m ls e) es (joined-all ls e h)
 
 -- the accepted lines are at most 256, and each is within its limits
 pub accepted-holdable : (m : Member) (es : List Line) → Holdable (accepted m es)
-accepted-holdable m es = accepted-from m [] es (record { few = omega arith; lines = none })
+unfolding entryNumber
+accepted-holdable m es = accepted-all m Holdable more [] es (record { few = omega arith; lines = none })
+  where
+    more : (ls : List Line) (l : Line) → Holdable ls → entryNumber m ls l ≡ 0 → Holdable (ls ++ (l ∷ []))
+    more ls l h e =
+        let ok = no-condition m (length ls) (lastFloor ls) l e in
+        record { few = omega (arith, length-append ls (l ∷ []), ok .0); lines = all-more (h .lines) (ok .1) }
 
--- entering a line where no condition holds, and where one does
 module _ (c : Column) (l : Line) where
+  -- entering a line where no condition holds
   pub entered-accepted : entryNumber (c .member) (linesOf c) l ≡ 0
       → enteredOf c l ≡ record { number = 0; column = columnOf (c .member) (linesOf c ++ (l ∷ [])) }
   unfolding enteredOf
   entered-accepted e = rw e
 
+  -- entering a line where one does
   pub entered-refused : (n : ℕ) → 1 ≤ n → entryNumber (c .member) (linesOf c) l ≡ n → enteredOf c l ≡ record { number = n; column = c }
   unfolding enteredOf
   entered-refused n h e = rw (e, ne-eqb n 0 (λ q. omega arith))
@@ -97,7 +105,6 @@ after-column m ls [] = refl
 after-column m ls (e ∷ es) =
     ap (λ (c : Column). after c es) (entered-column m ls e) ∙ after-column m (joined m ls e) es
 
--- a member that was opened has a code, and no lines
 module _ (m : Member) where
   opened-cases : (b : Bool) → between 1 12 (m .code) ≡ b → openedOf m .number ≡ 0
       → (between 1 12 (m .code) ≡ true) × (openedOf m .column ≡ columnOf m [])
@@ -105,9 +112,11 @@ module _ (m : Member) where
   opened-cases true e h = (e, rw e)
   opened-cases false e h = absurd (omega (arith, rw e at h))
 
+  -- a member that was opened has a code
   pub opened-code : openedOf m .number ≡ 0 → between 1 12 (m .code) ≡ true
   opened-code h = opened-cases (between 1 12 (m .code)) refl h .0
 
+  -- what opening it gave has no lines
   pub opened-column : openedOf m .number ≡ 0 → openedOf m .column ≡ columnOf m []
   opened-column h = opened-cases (between 1 12 (m .code)) refl h .1
 
@@ -115,15 +124,16 @@ module _ (m : Member) where
   pub after-opened : (es : List Line) → openedOf m .number ≡ 0 → after (openedOf m .column) es ≡ columnOf m (accepted m es)
   after-opened es h = ap (λ (c : Column). after c es) (opened-column h) ∙ after-column m [] es
 
--- what the private functions ask follows
 sound-column : (m : Member) (ls : List Line) → between 1 12 (m .code) ≡ true → Holdable ls → Sound (columnOf m ls)
 unfolding columnOf
 sound-column m ls e h =
     record { code = e; few = h .few; size = column-size m ls (h .few); lines = rw (column-lines m ls) (h .lines) }
 
-reached-column : {c : Column} (r : Reached c) → c ≡ columnOf (r .member) (accepted (r .member) (r .entries))
+-- a reached column is that of its accepted lines
+pub reached-column : {c : Column} (r : Reached c) → c ≡ columnOf (r .member) (accepted (r .member) (r .entries))
 reached-column r = r .is ∙ after-opened (r .member) (r .entries) (r .opened)
 
+-- what the private functions ask of a column holds of a reached one
 pub sound : {c : Column} → Reached c → Sound c
 sound r =
     let m = r .member in
@@ -150,7 +160,7 @@ pub unopened-not-reached : Reached unopened → ⊥
 unfolding columnOf
 unopened-not-reached r = false≢true (sound r .code)
 
--- opening a member gives a reached column, and entering a line on a reached column gives another
+-- opening a member gives a reached column
 pub reached-opened : (m : Member) → between 1 12 (m .code) ≡ true → Reached (columnOf m [])
 unfolding openedOf after
 reached-opened m e = record { member = m; entries = []; opened = rw e; is = rw e }
@@ -160,6 +170,7 @@ unfolding after
 after-more c [] l = refl
 after-more c (e ∷ es) l = after-more (enteredOf c e .column) es l
 
+-- entering a line on a reached column gives another
 pub reached-entered : {c : Column} (l : Line) → Reached c → Reached (enteredOf c l .column)
 reached-entered {c} l r =
     record {

@@ -7,7 +7,7 @@ ghost use Rattle.column.specs.Accepted.{lastFloor};
 ghost use Rattle.column.specs.Column.{linesOf, columnOf, memberOf, openedOf, enteredOf, after, Reached, asked, verdictNumber, outcome, saidWorking};
 ghost use Rattle.column.specs.Entries.{entriesOf, askedAfter};
 ghost use Rattle.column.specs.Demand3.{Claim};
-ghost use Rattle.column.specs.Sound.{InLimits, Sound};
+ghost use Rattle.column.specs.Sound.{InLimits};
 use reduction::InfluenceArea;
 use reduction::TributaryArea;
 use reduction::limits;
@@ -118,8 +118,8 @@ pub fn open(code: u64) -> Changed
 }
 
 // The floor of the last accepted line; 0 where there is none.
-fn last_floor(column: Column) -> u64
-    requires { ⌜ Sound column ⌝ }
+pub fn last_floor(column: Column) -> u64
+    requires { ⌜ Reached column ⌝ }
     ensures { λ r. ⌜ r ≡ lastFloor (linesOf column) ⌝ }
 {
     let count = column.count as usize;

@@ -41,10 +41,14 @@ magnitudeOf z = natAbs z
 abbrev pub limit : ℕ
 limit = 1000000000000
 
+-- 01, Numbers by the place of checking: a whole number is not "beyond ±1,000,000,000,000"
+abbrev pub within : ℤ → Bool
+within z = leb (magnitudeOf z) limit
+
 -- 01, Numbers by the place of checking: 8, not a whole number; then 9, beyond the limit; the double x comes back
 unfoldable pub limited : Float → Value → Told Float ℤ
 limited x notWhole = refused 8 x
-limited x (whole z) = cond (leb (magnitudeOf z) limit) (gives z) (refused 9 x)
+limited x (whole z) = cond (within z) (gives z) (refused 9 x)
 
 -- 01, Numbers by the place of checking: what a double gives as an effect, or 8 or 9
 unfoldable pub effectOf : Float → Told Float ℤ

@@ -2,7 +2,7 @@
 ghost use mathlib.Core.Path.{_≡_};
 ghost use Rattle.refusal.specs.Refusal.{numberOf};
 ghost use Rattle.effects.specs.Told.{refused};
-ghost use Rattle.effects.specs.Effect.{limit, effectOf, saidEffect};
+ghost use Rattle.effects.specs.Effect.{limit, within, effectOf, saidEffect};
 ghost use Rattle.effects.specs.Check.{placeOf, loadEffect, listed, newtonsOf, checkedOf, saidChecked};
 ghost use Rattle.effects.specs.Fit.{Seven};
 use refusal::Refusal;
@@ -69,6 +69,13 @@ pub struct RefusedEffect {
 pub enum Checked {
     Whole(Newtons),
     Refused(RefusedEffect),
+}
+
+// Whether an effect of so many newtons is within the limit.
+pub fn is_within(newtons: i64) -> bool
+    ensures { λ r. ⌜ r ≡ within newtons ⌝ }
+{
+    signed::magnitude(newtons) <= LIMIT
 }
 
 // The whole number that a double is, read off its bits: the sign, the exponent and the digits.

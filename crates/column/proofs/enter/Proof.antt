@@ -51,7 +51,7 @@ refused c =
     sym (entered-refused (s .args .column) (s .args .line) n some (sym (known (c .before .before))))
 
 last-floor-requires : tie.Need-last-floor-requires
-last-floor-requires c κs = sound (c .pre)
+last-floor-requires c κs = search needs
 
 cast-verdict-of : tie.Need-cast-verdict-of
 cast-verdict-of c = search needs

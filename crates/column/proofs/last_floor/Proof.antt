@@ -5,6 +5,7 @@ use native.Mathlib.Nat.{lt-of-not-le}
 use native.Mathlib.Decide.{decLe}
 use native.Mathlib.Omega.{arith}
 use Rattle.column.proofs.Lines.{last-none, last-some}
+use Rattle.column.proofs.Reach.{sound}
 use borrow.Author.Needs.{needs}
 use Rattle.column.proofs.last_floor.Statement.{statement}
 use Rattle.column.proofs.last_floor.Tie as tie
@@ -28,13 +29,13 @@ mul-last : tie.Need-mul-last
 mul-last c = search needs
 
 element-copy-out-last : tie.Need-element-copy-out-last
-element-copy-out-last c = search needs
+element-copy-out-last c = let ok = sound (c .before .pre) in omega (arith, ok .few, ok .size)
 
 cast-result : tie.Need-cast-result
 cast-result c = search needs
 
 returns-2 : tie.Need-returns-2
-returns-2 c = sym (last-some (c .before .before .before .args .t1) (c .before .before .before .pre) (positive (c .before .before)))
+returns-2 c = sym (last-some (c .before .before .before .args .t1) (sound (c .before .before .before .pre)) (positive (c .before .before)))
 
 pub last-floor-spec : {M : Type 1} → statement M
 last-floor-spec =

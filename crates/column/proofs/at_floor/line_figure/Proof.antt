@@ -1,16 +1,16 @@
 -- `column::at_floor::line_figure` meets its contract: a line within its limits has a reduced load, which is at most its load. Assumes nothing.
-use mathlib.Core.Path.{_≡_, _∙_, ap, subst⁻¹}
+use mathlib.Core.Path.{_≡_, _∙_, ap}
 use Prim.Native.Nat.{ℕ, _*_, _≤_}
-use native.Mathlib.Nat.{le-trans, mul-le-mul}
 use native.Mathlib.Omega.{arith}
 use Rattle.refusal.specs.Said.{said, gives}
 use Rattle.refusal.proofs.Said.{gives-it, gives-not-refused}
 use Rattle.reduction.specs.Share.{shareOf}
 use Rattle.reduction.specs.Reduced.{reduced, reducedOf}
 use Rattle.reduction.proofs.Tests.{in-limits}
-use Rattle.reduction.proofs.Shares.{share-at-most-one}
-use Rattle.reduction.proofs.Reduced.{reduced-at-most-load, reduced-known}
+use Rattle.reduction.proofs.Reduced.{reduced-known}
 use Rattle.column.specs.Figure.{lineFigure}
+use Rattle.column.specs.Column.{lineOf}
+use Rattle.column.proofs.Most.{line-most}
 use borrow.Author.Needs.{needs}
 use Rattle.column.proofs.at_floor.line_figure.Statement.{statement}
 use Rattle.column.proofs.at_floor.line_figure.Tie as tie
@@ -29,22 +29,16 @@ gives-r c =
     (in-limits 1 50000 (at .load) (s .pre .load .0) (s .pre .load .1)) in
     c .reduced-load-from .ensures ∙ known
 
--- R × area is at most the largest load on the largest area
-most : (s : tie.Start) → r s * s .args .line .area ≤ 50000 * 200000
-most s =
-    let at = s .args .line in
-    mul-le-mul
-    (le-trans (reduced-at-most-load _ (at .load) (share-at-most-one (at .load) (at .class) (s .args .floors) (s .args .x))) (s .pre .load .1))
-    (s .pre .area .1)
-
-is-r : (c : tie.After-answer) → c .answer .given .0 .0 ≡ r (c .before .before .before .before .before)
-is-r c = gives-it (c .answer .given .1) (gives-r (c .before .before))
-
+-- the product is the line's figure, and so within its bound
 product : (c : tie.After-struct-known3)
-    → c .before .before .answer .given .0 .0 * c .before .before .before .before .before .before .before .args .line .area ≤ 50000 * 200000
+    → let s = c .before .before .before .before .before .before .before in
+    let p = c .before .before .answer .given .0 .0 * s .args .line .area in
+    (p ≡ lineFigure (s .args .floors) (s .args .x) (lineOf (s .args .line))) × (p ≤ 10000000000)
+unfolding lineFigure
 product c =
     let s = c .before .before .before .before .before .before .before in
-    subst⁻¹ (λ (k : ℕ). k * s .args .line .area ≤ 50000 * 200000) (is-r (c .before .before)) (most s)
+    let is : c .before .before .answer .given .0 .0 ≡ r s = gives-it (c .before .before .answer .given .1) (gives-r (c .before .before .before .before)) in
+    (ap (λ (k : ℕ). k * s .args .line .area) is, rw is (line-most (s .args .floors) (s .args .x) (lineOf (s .args .line)) (s .pre)))
 
 cast-load : tie.Need-cast-load
 cast-load c = search needs
@@ -62,14 +56,13 @@ cast-result : tie.Need-cast-result
 cast-result c = search needs
 
 mul-result : tie.Need-mul-result
-mul-result c = omega (arith, product c)
+mul-result c = omega (arith, product c .1)
 
 enum-told : tie.Need-enum-told
 enum-told c = search needs
 
 returns : tie.Need-returns
-unfolding lineFigure
-returns c = (ap (λ (k : ℕ). k * c .before .before .before .before .before .before .before .args .line .area) (is-r (c .before .before)), product c)
+returns c = product c
 
 returns-2 : tie.Need-returns-2
 returns-2 c = absurd (gives-not-refused (c .enum-told .given .1) (gives-r (c .before .before)))

@@ -1,0 +1,36 @@
+// The text that takedown prints for a sheet.
+ghost use mathlib.Core.Path.{_≡_};
+ghost use Prim.Native.Nat.{_≤_};
+ghost use lib.ListN.{length, take, drop};
+ghost use Rattle.io.specs.Counts.{Counts};
+ghost use Rattle.text.specs.Put.{Put};
+ghost use Rattle.sheet.specs.Keeps.{Keeps};
+ghost use Rattle.report.specs.Report.{printed, reportOf};
+use sheet::Reading;
+
+mod lines;
+mod takedown;
+
+// Puts what is printed of a reading.
+fn put_reading(out: &mut [u8], reading: Reading) -> usize
+    requires { ⌜ (4096 ≤ length (now out)) × (reading .number ≡ 0 → Keeps (reading .sheet)) ⌝ }
+    ensures { λ r. ⌜ Put (now (out .entry)) 0 (printed reading) (now (out .exit)) r × (r ≤ 4096) ⌝ }
+{
+    if reading.number == 0 {
+        let sheet = reading.sheet;
+        return takedown::put_takedown(out, sheet);
+    }
+    lines::put_refusal(out, reading.number, reading.line)
+}
+
+// Puts what takedown prints for a text at the start of a buffer, and gives how many bytes that is;
+// the rest of the buffer stays as it was. No report has more than 3,960 bytes, so all find room.
+pub fn report(text: &[u8], out: &mut [u8; 4096]) -> usize
+    ensures { λ r. ⌜ r ≡ length (reportOf (now (text .entry))) ⌝ }
+    ensures { λ r. ⌜ Counts r (now (out .exit)) ⌝ }
+    ensures { λ r. ⌜ take r (now (out .exit)) ≡ reportOf (now (text .entry)) ⌝ }
+    ensures { λ r. ⌜ drop r (now (out .exit)) ≡ drop r (now (out .entry)) ⌝ }
+{
+    let reading = sheet::read(text);
+    put_reading(out, reading)
+}

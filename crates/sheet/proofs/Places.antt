@@ -1,0 +1,143 @@
+-- Reading a text from a place on: at its end, at a line that lacks its newline, and at a line that has one.
+-- Assumes nothing.
+use mathlib.Core.Path.{_≡_, refl, ap, subst⁻¹}
+use mathlib.Core.Bool.{Bool, true, false, cond}
+use mathlib.Core.List.{List, [], _∷_, _++_}
+use Prim.Native.Nat.{ℕ, suc, _+_, _-_, _<_, _≤_}
+use native.Mathlib.Omega.{arith}
+use native.Mathlib.Nat.{not-suc-le-zero}
+use lib.Dec.{eqb, ltb}
+use lib.ListN.{length, drop, take, drop-of-length-le, length-drop, length-append}
+use lib.Seq.{drop-drop, length-take-le, take-length}
+use borrow.Author.Tests.{le-ltb}
+use Rattle.bytes.specs.Bytes.{slice, indexOf, indexAfter}
+use Rattle.text.specs.Text.{newline, ended}
+use Rattle.sheet.specs.declared.steps.Draft.{Draft}
+use Rattle.sheet.specs.declared.steps.Taken.{Taken}
+use Rattle.sheet.specs.declared.Reading.{Reading}
+use Rattle.sheet.specs.Lines.{Lines, line, rest, withByte, split}
+use Rattle.sheet.specs.Sheet.{unread, isComplete, lineTaken, reading, ifRead, readFrom, readSheet}
+use Rattle.sheet.specs.Keeps.{Keeps}
+use Rattle.sheet.proofs.Bytes.{bytes, bytes-split}
+use Rattle.sheet.proofs.Kept.{read-keeps}
+
+-- what is found in a text from a place on is found within it
+pub index-most : (bs : List ℕ) → indexOf newline bs ≤ length bs
+unfolding indexOf indexAfter
+index-most [] = omega arith
+index-most (b ∷ bs) = go (eqb b newline) (index-most bs)
+  where
+    go : (t : Bool) → indexOf newline bs ≤ length bs → indexAfter t (indexOf newline bs) ≤ suc (length bs)
+    go true h = omega arith
+    go false h = omega arith
+
+-- the first line of bytes that have a newline, and the lines after it
+index-line : (bs : List ℕ) → indexOf newline bs < length bs
+    → split bs ≡ line (take (indexOf newline bs) bs) (split (drop (suc (indexOf newline bs)) bs))
+unfolding split withByte indexOf indexAfter
+index-line [] h = absurd (not-suc-le-zero h)
+index-line (b ∷ bs) h = go (eqb b newline) h (index-line bs)
+  where
+    I : Bool → ℕ
+    I t = indexAfter t (indexOf newline bs)
+
+    go : (t : Bool) → I t < suc (length bs)
+        → (indexOf newline bs < length bs → split bs ≡ line (take (indexOf newline bs) bs) (split (drop (suc (indexOf newline bs)) bs)))
+        → cond t (line [] (split bs)) (withByte b (split bs)) ≡ line (take (I t) (b ∷ bs)) (split (drop (suc (I t)) (b ∷ bs)))
+    go true h f = refl
+    go false h f = rw (f (omega arith))
+
+-- bytes without a newline
+index-none : (bs : List ℕ) → indexOf newline bs ≡ length bs → split bs ≡ rest bs
+unfolding split withByte indexOf indexAfter
+index-none [] h = refl
+index-none (b ∷ bs) h = go (eqb b newline) h (index-none bs)
+  where
+    go : (t : Bool) → indexAfter t (indexOf newline bs) ≡ suc (length bs) → (indexOf newline bs ≡ length bs → split bs ≡ rest bs)
+        → cond t (line [] (split bs)) (withByte b (split bs)) ≡ rest (b ∷ bs)
+    go true h f = absurd (omega arith)
+    go false h f = rw (f (omega arith))
+
+-- what a search up to the end of a text looks at
+pub slice-all : (text : List ℕ) (at : ℕ) → slice at (length text) text ≡ drop at text
+unfolding slice
+slice-all text at = ap (drop at) (take-length text)
+
+module _ (text : List ℕ) (k at : ℕ) (d : Draft) where
+  -- the text has ended
+  pub read-end : length text ≤ at
+      → readFrom k at d (split (drop at text)) ≡ cond (isComplete (d .due)) (reading 0 k at at d) (reading 10 (k + 1) at at d)
+  unfolding readFrom split
+  read-end h = rw (drop-of-length-le text h)
+
+  -- the line lacks its newline
+  pub read-short : at < length text → at + indexOf newline (drop at text) ≡ length text
+      → readFrom k at d (split (drop at text)) ≡ reading 10 (k + 1) at (length text) d
+  unfolding readFrom
+  read-short h e =
+      let size = length-drop at text in
+      rw (index-none (drop at text) (omega arith)) (go (drop at text) (omega arith) (omega arith))
+    where
+      go : (bs : List ℕ) → 0 < length bs → at + length bs ≡ length text → readFrom k at d (rest bs) ≡ reading 10 (k + 1) at (length text) d
+      go [] z m = absurd (omega arith)
+      go (b ∷ bs) z m = ap (λ (end : ℕ). reading 10 (k + 1) at end d) m
+
+  -- the line has a newline, which stands at `end`
+  pub read-line : (end : ℕ) → end ≡ at + indexOf newline (drop at text) → end < length text
+      → (let t = lineTaken d (take (end - at) (drop at text)) in
+      readFrom k at d (split (drop at text)) ≡ ifRead t (k + 1) at end d (readFrom (k + 1) (end + 1) (t .draft) (split (drop (end + 1) text))))
+  unfolding readFrom
+  read-line end e h =
+      let i : ℕ = indexOf newline (drop at text) in
+      let size = length-drop at text in
+      let n : i ≡ end - at = omega arith in
+      let m : length (take (end - at) (drop at text)) ≡ end - at = length-take-le (end - at) (drop at text) (omega arith) in
+      let x : at + length (take (end - at) (drop at text)) ≡ end = omega arith in
+      let y : at + suc (end - at) ≡ end + 1 = omega arith in
+      rw (index-line (drop at text) (omega arith), n, drop-drop, y, x)
+
+-- a text that is not too long is read from its start
+pub read-start : (text : List ℕ) → length text ≤ 32768 → readSheet text ≡ readFrom 0 0 unread (split text)
+unfolding readSheet
+read-start text h = rw (le-ltb 32768 (length text) h)
+
+-- what is said of a reading of the text
+pub promised : (text : List ℕ) {r : Reading} → r ≡ readSheet text → (r ≡ readSheet text) × (r .number ≡ 0 → Keeps (r .sheet))
+promised text e = (e, subst⁻¹ (λ (r : Reading). r .number ≡ 0 → Keeps (r .sheet)) e (read-keeps text))
+
+-- the part that a reading hands back lies within the text
+pub record PartOf (n : ℕ) (r : Reading) : Type 0 where
+  pub order : r .start ≤ r .end
+  pub inside : r .end ≤ n
+
+-- a part within the text, whether the line is taken or refused
+part-if : {n : ℕ} (t : Taken) (k start end : ℕ) (d : Draft) (r : Reading) → PartOf n r → start ≤ end → end ≤ n → PartOf n (ifRead t k start end d r)
+unfolding ifRead
+part-if {n} t k start end d r p h g = go (eqb (t .number) 0)
+  where
+    go : (b : Bool) → PartOf n (cond b r (reading (t .number) k start end d))
+    go true = p
+    go false = record { order = h; inside = g }
+
+part-from : (k at : ℕ) (d : Draft) (ls : Lines) → PartOf (at + length (bytes ls)) (readFrom k at d ls)
+unfolding readFrom bytes
+part-from k at d (rest []) = go (isComplete (d .due))
+  where
+    go : (b : Bool) → PartOf (at + 0) (cond b (reading 0 k at at d) (reading 10 (k + 1) at at d))
+    go true = record { order = omega arith; inside = omega arith }
+    go false = record { order = omega arith; inside = omega arith }
+part-from k at d (rest (b ∷ bs)) = record { order = omega arith; inside = omega arith }
+part-from k at d (line l ls) =
+    let on = part-from _ _ (lineTaken d l .draft) ls in
+    let size : length (ended l ++ bytes ls) ≡ length l + 1 + length (bytes ls) = simp length-append in
+    part-if (lineTaken d l) _ _ _ d _ (record { order = on .order; inside = omega (arith, on .inside, size) }) (omega arith) (omega (arith, size))
+
+-- the part that is handed back lies within the text
+pub read-part : (text : List ℕ) → PartOf (length text) (readSheet text)
+unfolding readSheet
+read-part text = go (ltb 32768 (length text)) (part-from 0 0 unread (split text))
+  where
+    go : (b : Bool) → PartOf (0 + length (bytes (split text))) (readFrom 0 0 unread (split text))
+        → PartOf (length text) (cond b (reading 11 0 0 0 unread) (readFrom 0 0 unread (split text)))
+    go true p = record { order = omega arith; inside = omega arith }
+    go false p = record { order = p .order; inside = omega (arith, p .inside, ap length (bytes-split text)) }

@@ -1,0 +1,181 @@
+-- `sheet::read` meets its contract: reading on from here, with the sheet so far, gives what reading the whole text gives. Assumes nothing.
+use mathlib.Core.Path.{_≡_, refl, sym, _∙_, ap}
+use mathlib.Core.List.{List}
+use Prim.Native.Nat.{ℕ, _≤_, _<_, _-_, _+_}
+use native.Mathlib.Omega.{arith}
+use lib.ListN.{length, drop, length-drop}
+use borrow.Author.Tests.{lt-ltb, eq-eqb, ne-eqb}
+use Rattle.bytes.specs.Bytes.{indexOf}
+use Rattle.refusal.specs.Refusal.{numberOf}
+use Rattle.text.specs.Text.{newline}
+use Rattle.sheet.specs.Lines.{split}
+use Rattle.sheet.specs.Sheet.{unread, reading, ifRead, readFrom, readSheet}
+use Rattle.sheet.proofs.Kept.{Kept, unread-kept, line-kept}
+use Rattle.sheet.proofs.Places.{index-most, slice-all, read-end, read-short, read-line, read-start, promised}
+use borrow.Author.Needs.{needs}
+use Rattle.sheet.proofs.read.Statement.{statement}
+use Rattle.sheet.proofs.read.Tie as tie
+
+abbrev Inv-loop : tie.InvT-loop
+Inv-loop text draft₀ at₀ line₀ draft at line = (readFrom 0 0 unread (split text) ≡ readFrom line at draft (split (drop at text))) × (Kept draft × ((at ≤ length text) × ((line ≤ at) × (length text ≤ 32768))))
+
+abbrev μ-loop : tie.MeasureT-loop
+μ-loop text draft₀ at₀ line₀ draft at line = length text - at
+
+-- the newline that was found, or the end of the text
+found : (c : tie.After-find Inv-loop μ-loop)
+    → c .find .result ≡ c .before .before .loop .at + indexOf newline (drop (c .before .before .loop .at) (c .before .before .before .before .before .before .args .text .now))
+found c =
+    let text = c .before .before .before .before .before .before .args .text .now in
+    let at = c .before .before .loop .at in
+    c .find .ensures .0 ∙ ap (λ (bs : List ℕ). at + indexOf newline bs) (slice-all text at)
+
+-- a newline that was found stands within the text
+within : (c : tie.Else2 Inv-loop μ-loop)
+    → (c .before .before .before .loop .at ≤ c .before .find .result) × (c .before .find .result < length (c .before .before .before .before .before .before .before .args .text .now))
+within c =
+    let text = c .before .before .before .before .before .before .before .args .text .now in
+    let at = c .before .before .before .loop .at in
+    omega (arith, found (c .before), c .if2 .left, index-most (drop at text), length-drop at text)
+
+unread-requires : tie.Need-unread-requires Inv-loop μ-loop
+unread-requires c κs = search needs
+
+number-requires : tie.Need-number-requires Inv-loop μ-loop
+number-requires c κs = search needs
+
+stopped-requires : tie.Need-stopped-requires Inv-loop μ-loop
+stopped-requires c κs = search needs
+
+returns : tie.Need-returns Inv-loop μ-loop
+unfolding readSheet numberOf
+returns c =
+    let text = c .before .before .before .before .before .args .text .now in
+    let e : reading (c .before .number .result) 0 0 0 (c .before .before .before .unread .result) ≡ readSheet text = rw (c .before .number .ensures, c .before .before .before .unread .ensures, lt-ltb _ _ (c .before .before .if1 .taken)) in
+    promised text (c .stopped .ensures ∙ e)
+
+loop-holds : tie.Need-loop-holds Inv-loop μ-loop
+loop-holds c = rw (c .before .unread .ensures) (refl, (unread-kept, omega arith))
+
+find-requires : tie.Need-find-requires Inv-loop μ-loop
+find-requires c κs = search needs
+
+add-malformed : tie.Need-add-malformed Inv-loop μ-loop
+add-malformed c = search needs
+
+malformed-requires : tie.Need-malformed-requires Inv-loop μ-loop
+malformed-requires c κs = search needs
+
+returns-2 : tie.Need-returns-2 Inv-loop μ-loop
+returns-2 c =
+    let text = c .before .before .before .before .before .before .before .before .args .text .now in
+    let l = c .before .before .before .before .loop in
+    let short = read-short text (l .line) (l .at) (l .draft) (c .before .before .before .loop-test .taken) (sym (found (c .before .before)) ∙ c .before .if2 .taken) in
+    let e : readSheet text ≡ reading 10 (l .line + 1) (l .at) (c .before .before .find .result) (l .draft) = read-start text (l .inv .1 .1 .1 .1) ∙ (l .inv .0 ∙ (short ∙ rw (← c .before .if2 .taken))) in
+    promised text (c .malformed .ensures ∙ sym e)
+
+sub-take-line : tie.Need-sub-take-line Inv-loop μ-loop
+sub-take-line c = within c .0
+
+part-take-line-start : tie.Need-part-take-line-start Inv-loop μ-loop
+part-take-line-start c = within c .0
+
+part-take-line-end : tie.Need-part-take-line-end Inv-loop μ-loop
+part-take-line-end c = omega (arith, within c .1)
+
+take-line-requires : tie.Need-take-line-requires Inv-loop μ-loop
+take-line-requires c κs = c .before .before .before .before .loop .inv .1 .0
+
+add-stopped : tie.Need-add-stopped Inv-loop μ-loop
+add-stopped c = search needs
+
+stopped-requires-2 : tie.Need-stopped-requires-2 Inv-loop μ-loop
+stopped-requires-2 c κs = search needs
+
+returns-3 : tie.Need-returns-3 Inv-loop μ-loop
+unfolding ifRead
+returns-3 c =
+    let text = c .before .before .before .before .before .before .before .before .before .before .before .before .args .text .now in
+    let l = c .before .before .before .before .before .before .before .before .loop in
+    let on = read-line text (l .line) (l .at) (l .draft) (c .before .before .before .before .before .before .find .result) (found (c .before .before .before .before .before .before)) (within (c .before .before .before .before .before) .1) in
+    let e : readSheet text ≡ reading (c .before .before .before .take-line .result .number) (l .line + 1) (l .at) (c .before .before .before .before .before .before .find .result) (l .draft) = read-start text (l .inv .1 .1 .1 .1) ∙ (l .inv .0 ∙ (on ∙ rw (← c .before .before .before .take-line .ensures, ne-eqb _ _ (c .before .if3 .taken)))) in
+    promised text (c .stopped2 .ensures ∙ sym e)
+
+add-at : tie.Need-add-at Inv-loop μ-loop
+add-at c = omega (arith, within (c .before .before .before .before .before) .1)
+
+add-line : tie.Need-add-line Inv-loop μ-loop
+add-line c = search needs
+
+loop-less : tie.Need-loop-less Inv-loop μ-loop
+loop-less c = omega (arith, within (c .before .before .before .before .before))
+
+loop-again : tie.Need-loop-again Inv-loop μ-loop
+unfolding ifRead
+loop-again c =
+    let text = c .before .before .before .before .before .before .before .before .before .before .before .before .args .text .now in
+    let l = c .before .before .before .before .before .before .before .before .loop in
+    let in-text = within (c .before .before .before .before .before) in
+    let on = read-line text (l .line) (l .at) (l .draft) (c .before .before .before .before .before .before .find .result) (found (c .before .before .before .before .before .before)) (in-text .1) in (
+      l .inv .0 ∙ (on ∙ rw (← c .before .before .before .take-line .ensures, eq-eqb _ _ (c .before .if3 .left))),
+      (rw (c .before .before .before .take-line .ensures) (line-kept (l .draft) _ (l .inv .1 .0)), omega arith),
+    )
+
+is-complete-requires : tie.Need-is-complete-requires Inv-loop μ-loop
+is-complete-requires c κs = search needs
+
+stopped-requires-3 : tie.Need-stopped-requires-3 Inv-loop μ-loop
+stopped-requires-3 c κs = search needs
+
+returns-4 : tie.Need-returns-4 Inv-loop μ-loop
+returns-4 c =
+    let text = c .before .before .before .before .before .before .before .before .args .text .now in
+    let l = c .before .before .before .before .loop in
+    let e : readSheet text ≡ reading 0 (l .line) (l .at) (l .at) (l .draft) = read-start text (l .inv .1 .1 .1 .1) ∙ (l .inv .0 ∙ (read-end text (l .line) (l .at) (l .draft) (c .before .before .before .loop-test .left) ∙ rw (sym (c .before .before .is-complete .ensures) ∙ c .before .if4 .taken))) in
+    promised text (c .stopped3 .ensures ∙ sym e)
+
+add-malformed-2 : tie.Need-add-malformed-2 Inv-loop μ-loop
+add-malformed-2 c = search needs
+
+malformed-requires-2 : tie.Need-malformed-requires-2 Inv-loop μ-loop
+malformed-requires-2 c κs = search needs
+
+returns-5 : tie.Need-returns-5 Inv-loop μ-loop
+returns-5 c =
+    let text = c .before .before .before .before .before .before .before .before .args .text .now in
+    let l = c .before .before .before .before .loop in
+    let e : readSheet text ≡ reading 10 (l .line + 1) (l .at) (l .at) (l .draft) = read-start text (l .inv .1 .1 .1 .1) ∙ (l .inv .0 ∙ (read-end text (l .line) (l .at) (l .draft) (c .before .before .before .loop-test .left) ∙ rw (sym (c .before .before .is-complete .ensures) ∙ c .before .if4 .left))) in
+    promised text (c .malformed2 .ensures ∙ sym e)
+
+pub read-spec : {M : Type 1} → statement M
+read-spec =
+    tie.close
+    (tie.spec
+    Inv-loop
+    μ-loop
+    unread-requires
+    number-requires
+    stopped-requires
+    returns
+    loop-holds
+    find-requires
+    add-malformed
+    malformed-requires
+    returns-2
+    sub-take-line
+    part-take-line-start
+    part-take-line-end
+    take-line-requires
+    add-stopped
+    stopped-requires-2
+    returns-3
+    add-at
+    add-line
+    loop-less
+    loop-again
+    is-complete-requires
+    stopped-requires-3
+    returns-4
+    add-malformed-2
+    malformed-requires-2
+    returns-5)

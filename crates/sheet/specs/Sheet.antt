@@ -1,0 +1,121 @@
+-- Paper 01, "The sheet" and "Numbers by the place of checking": reading a sheet, line by line.
+-- Assumes nothing.
+use mathlib.Core.Bool.{Bool, true, false, cond}
+use mathlib.Core.List.{List, [], _∷_}
+use Prim.Native.Nat.{ℕ, _+_, _-_}
+use lib.Dec.{ltb, eqb}
+use lib.IntN.{ℤ, pos}
+use lib.ListN.{length, take, drop}
+use Rattle.column.specs.declared.Column.{Column}
+use Rattle.column.specs.Column.{Outcome, memberOf, unopened, openedOf, enteredOf}
+use Rattle.effects.specs.Effect.{within}
+use Rattle.form.specs.declared.Due.{Due}
+use Rattle.form.specs.declared.Due.the-variants as D
+use Rattle.form.specs.declared.Form.{Form}
+use Rattle.form.specs.declared.Form.the-variants as F
+use Rattle.form.specs.Form.{formOf}
+use Rattle.sheet.specs.declared.SheetEffects.{SheetEffects}
+use Rattle.sheet.specs.declared.steps.Draft.{Draft}
+use Rattle.sheet.specs.declared.steps.Taken.{Taken}
+use Rattle.sheet.specs.declared.Reading.{Reading}
+use Rattle.sheet.specs.Lines.{Lines, line, rest, split}
+
+-- before the first line: no member is opened, and all effects are 0
+abbrev pub noEffects : SheetEffects
+noEffects = record { dead = pos 0; roof = pos 0; snow = pos 0; rain = pos 0; wind = pos 0; quake = pos 0 }
+
+abbrev pub unread : Draft
+unread = record { due = D.Member; sheet = record { column = unopened; effects = noEffects } }
+
+-- 01, The sheet: "in a fixed order"; the line that is due after a line that was due, a floor line aside
+unfoldable pub dueAfter : Due → Due
+dueAfter D.Member = D.FloorOrDead
+dueAfter D.FloorOrDead = D.Roof
+dueAfter D.Roof = D.Snow
+dueAfter D.Snow = D.Rain
+dueAfter D.Rain = D.Wind
+dueAfter D.Wind = D.Quake
+dueAfter D.Quake = D.Nothing
+dueAfter D.Nothing = D.Nothing
+
+-- 01, The sheet: the sheet has all its lines
+unfoldable pub isComplete : Due → Bool
+isComplete D.Nothing = true
+isComplete D.Member = false
+isComplete D.FloorOrDead = false
+isComplete D.Roof = false
+isComplete D.Snow = false
+isComplete D.Rain = false
+isComplete D.Wind = false
+isComplete D.Quake = false
+
+-- the effects with that of the line that was due
+unfoldable pub withEffect : Due → ℤ → SheetEffects → SheetEffects
+withEffect D.FloorOrDead z e = record { dead = z; roof = e .roof; snow = e .snow; rain = e .rain; wind = e .wind; quake = e .quake }
+withEffect D.Roof z e = record { dead = e .dead; roof = z; snow = e .snow; rain = e .rain; wind = e .wind; quake = e .quake }
+withEffect D.Snow z e = record { dead = e .dead; roof = e .roof; snow = z; rain = e .rain; wind = e .wind; quake = e .quake }
+withEffect D.Rain z e = record { dead = e .dead; roof = e .roof; snow = e .snow; rain = z; wind = e .wind; quake = e .quake }
+withEffect D.Wind z e = record { dead = e .dead; roof = e .roof; snow = e .snow; rain = e .rain; wind = z; quake = e .quake }
+withEffect D.Quake z e = record { dead = e .dead; roof = e .roof; snow = e .snow; rain = e .rain; wind = e .wind; quake = z }
+withEffect D.Member z e = e
+withEffect D.Nothing z e = e
+
+-- the draft after a line that gave a column, and after one that gave an effect
+abbrev pub withColumn : Draft → Column → Draft
+withColumn d c = record { due = D.FloorOrDead; sheet = record { column = c; effects = d .sheet .effects } }
+
+abbrev pub withNext : Draft → ℤ → Draft
+withNext d z = record { due = dueAfter (d .due); sheet = record { column = d .sheet .column; effects = withEffect (d .due) z (d .sheet .effects) } }
+
+-- a line with a number is refused, and the draft is then as before; with 0 it is taken
+unfoldable pub ifTaken : ℕ → Draft → Draft → Taken
+ifTaken n d next = record { number = n; draft = cond (eqb n 0) next d }
+
+-- 01, Numbers by the place of checking: 9, beyond ±1,000,000,000,000
+unfoldable pub effectNumber : ℤ → ℕ
+effectNumber z = cond (within z) 0 9
+
+-- the draft after opening the member or entering the line
+abbrev pub withOutcome : Draft → Outcome → Taken
+withOutcome d o = ifTaken (o .number) d (withColumn d (o .column))
+
+-- 01, Numbers by the place of checking: of a line that has the form, its values: 1; 2 to 6; 9; without the form 10
+unfoldable pub valued : Draft → Form → Taken
+valued d (F.Member code) = withOutcome d (openedOf (memberOf code))
+valued d (F.Floor l) = withOutcome d (enteredOf (d .sheet .column) l)
+valued d (F.Effect z) = ifTaken (effectNumber z) d (withNext d z)
+valued d F.Malformed = ifTaken 10 d d
+
+-- 01, Numbers by the place of checking: "each line: form, then its values"
+unfoldable pub lineTaken : Draft → List ℕ → Taken
+lineTaken d l = valued d (formOf (d .due) l)
+
+-- what reading gives where it stops: the number, the line K, the part from start to end, and the sheet so far
+abbrev pub reading : ℕ → ℕ → ℕ → ℕ → Draft → Reading
+reading number k start end d = record { number = number; line = k; start = start; end = end; sheet = d .sheet }
+
+-- 01, The sheet: a refused line is "without its newline"; r is what reading on gives where it is taken
+unfoldable pub ifRead : Taken → ℕ → ℕ → ℕ → Draft → Reading → Reading
+ifRead t k start end d r = cond (eqb (t .number) 0) r (reading (t .number) k start end d)
+
+-- 01, The sheet: k lines are read, which end before a place of the text; these lines follow.
+-- "A missing line counts as the next one"; "where the last line lacks its newline, the part runs to the end of the text".
+-- Where the sheet is read, which the paper leaves free, K is its last line
+unfoldable pub readFrom : ℕ → ℕ → Draft → Lines → Reading
+readFrom k at d (rest []) = cond (isComplete (d .due)) (reading 0 k at at d) (reading 10 (k + 1) at at d)
+readFrom k at d (rest (b ∷ bs)) = reading 10 (k + 1) at (at + length (b ∷ bs)) d
+readFrom k at d (line l ls) =
+    let t = lineTaken d l in
+    ifRead t (k + 1) at (at + length l) d (readFrom (k + 1) (at + length l + 1) (t .draft) ls)
+
+-- 01, Numbers by the place of checking: "length first", 11, with K = 0 and the empty part at the start; then each line
+unfoldable pub readSheet : List ℕ → Reading
+readSheet text = cond (ltb 32768 (length text)) (reading 11 0 0 0 unread) (readFrom 0 0 unread (split text))
+
+-- 01, The sheet: "hands back the offending line": the bytes from start to end
+unfoldable pub offendingOf : List ℕ → List ℕ
+offendingOf text = let r = readSheet text in take (r .end - r .start) (drop (r .start) text)
+
+-- 01, The sheet: "of the lent text itself": where the part stands in memory, the start counted from where the text stands
+unfoldable pub offendingAt : ℕ × ℕ → List ℕ → ℕ × ℕ
+offendingAt place text = (place .0, readSheet text .start + place .1)

@@ -1,0 +1,5 @@
+-- Laws of the definitions, for the proofs here and in the crates above.
+pub mod Decimal
+pub mod Digits
+pub mod Sign
+pub mod Puts

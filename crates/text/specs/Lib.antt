@@ -1,0 +1,3 @@
+-- The definitions of text.
+pub mod Text
+pub mod Put
