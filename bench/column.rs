@@ -1,46 +1,15 @@
 // Times asking and entering on full columns: the proved static library beside plain Rust.
+#[allow(dead_code)]
+#[path = "../tests/bungero.rs"]
+mod bungero;
+#[path = "../tests/lot.rs"]
+mod lot;
 mod plain;
 
+use bungero::{bungero_ask, bungero_enter, bungero_open, Column};
+use lot::lot;
 use std::hint::black_box;
 use std::time::Instant;
-
-#[repr(C)]
-#[derive(Clone, Copy)]
-struct Held {
-    floor: u8,
-    class: u8,
-    load: u16,
-    area: u32,
-}
-
-#[repr(C)]
-#[derive(Clone, Copy)]
-struct Column {
-    code: u8,
-    count: u16,
-    held: [Held; 256],
-}
-
-#[repr(C)]
-#[derive(Clone, Copy)]
-struct BungeroColumn {
-    number: u64,
-    column: Column,
-}
-
-#[repr(C)]
-struct BungeroFigure {
-    number: u64,
-    floors: u64,
-    influence: u64,
-    figure: u64,
-}
-
-extern "C" {
-    fn bungero_open(code: u64) -> BungeroColumn;
-    fn bungero_enter(column: Column, floor: u64, class: u64, load: u64, area: u64) -> BungeroColumn;
-    fn bungero_ask(column: Column, floor: u64) -> BungeroFigure;
-}
 
 // Every column comes from these, so what the contracts ask of a column holds.
 fn proved_open(code: u64) -> Column {
@@ -103,14 +72,6 @@ fn plain_filled(lines: &[[u64; 4]]) -> plain::Column {
         column.enter(line[0], line[1], line[2], line[3]).unwrap();
     }
     column
-}
-
-// Numbers below a limit, the same in each run.
-fn lot(mut seed: u64) -> impl FnMut(u64) -> u64 {
-    move |below| {
-        seed = seed.wrapping_mul(6364136223846793005).wrapping_add(1442695040888963407);
-        (seed >> 33) % below
-    }
 }
 
 // 256 formula lines, four a floor, with areas of 1 to `most` dm².

@@ -1,42 +1,9 @@
 // Tries the exported combination from Rust: the stored questions, and that a refused double comes back bit for bit, each NaN too.
+#[allow(dead_code)]
+mod bungero;
+
+use bungero::{bungero_combine, BungeroCombined, Effects, GoverningRow};
 use std::fs;
-
-#[repr(C)]
-#[derive(Clone, Copy)]
-struct Effects {
-    dead: f64,
-    live: f64,
-    roof: f64,
-    snow: f64,
-    rain: f64,
-    wind: f64,
-    quake: f64,
-}
-
-#[repr(C)]
-struct GoverningRow {
-    row: u64,
-    tenths: i64,
-    double: f64,
-}
-
-#[repr(C)]
-struct Governing {
-    greatest: GoverningRow,
-    least: GoverningRow,
-}
-
-#[repr(C)]
-struct BungeroCombined {
-    number: u64,
-    place: u64,
-    double: f64,
-    governing: Governing,
-}
-
-extern "C" {
-    fn bungero_combine(effects: Effects) -> BungeroCombined;
-}
 
 const NAMES: [&str; 7] = ["dead", "live", "roof", "snow", "rain", "wind", "quake"];
 

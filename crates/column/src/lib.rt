@@ -17,6 +17,7 @@ mod at_floor;
 mod conditions;
 
 // A line as a caller hands it over, each number as wide as it comes.
+#[repr(C)]
 pub struct Line {
     pub floor: u64,
     pub class: u64,

@@ -6,7 +6,7 @@ use lib.IntN.{ℤ}
 use Rattle.effects.specs.declared.Effects.{Effects}
 use Rattle.effects.specs.declared.Newtons.{Newtons}
 use Rattle.effects.specs.declared.LoadEffect.{LoadEffect}
-use Rattle.effects.specs.Told.{Told, gives, refused}
+use Rattle.refusal.specs.Told.{Told, gives, refused}
 use Rattle.effects.specs.Effect.{limit}
 use Rattle.effects.specs.Check.{newtonsOf, doublesOf, checkedOf}
 use Rattle.effects.specs.Fit.{Seven}

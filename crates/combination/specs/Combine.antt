@@ -7,7 +7,7 @@ use lib.Ieee.{binary64, ofInt}
 use Rattle.refusal.specs.Refusal.{numberOf}
 use Rattle.effects.specs.declared.Effects.{Effects}
 use Rattle.effects.specs.declared.LoadEffect.{LoadEffect}
-use Rattle.effects.specs.Told.{Told, gives, refused}
+use Rattle.refusal.specs.Told.{Told, gives, refused}
 use Rattle.effects.specs.Effect.{valueOf, whole}
 use Rattle.effects.specs.Check.{checkedOf}
 use Rattle.combination.specs.declared.search.Best.{Best}

@@ -13,7 +13,7 @@ use lib.Seq.{take-all, drop-cons, take-suc-set}
 use Rattle.effects.specs.declared.Effects.{Effects}
 use Rattle.effects.specs.declared.Newtons.{Newtons}
 use Rattle.effects.specs.declared.LoadEffect.{LoadEffect}
-use Rattle.effects.specs.Told.{Told, gives, refused}
+use Rattle.refusal.specs.Told.{Told, gives, refused}
 use Rattle.effects.specs.Effect.{limit, effectOf}
 use Rattle.effects.specs.Check.{loadEffect, listed, newtonsOf, doublesOf, ifGiven, checkedFrom, checkedOf}
 use Rattle.effects.specs.Fit.{EachAtMost, Sized, Seven}

@@ -7,7 +7,7 @@ use lib.Dec.{T, leb, leb→le}
 use lib.IntN.{ℤ, natAbs}
 use lib.Ieee.{Float}
 use borrow.Author.Tests.{le-leb, lt-leb}
-use Rattle.effects.specs.Told.{gives, refused}
+use Rattle.refusal.specs.Told.{gives, refused}
 use Rattle.effects.specs.Effect.{Value, whole, notWhole, signed, valueOf, limit, limited, effectOf}
 use Rattle.effects.proofs.Numbers.{size-neg}
 use Rattle.effects.proofs.Values.{Is}

@@ -12,7 +12,7 @@ use Rattle.effects.specs.declared.Newtons.{Newtons}
 use Rattle.effects.specs.declared.LoadEffect.{LoadEffect}
 use Rattle.effects.specs.declared.Checked.{Checked}
 use Rattle.effects.specs.declared.Checked.the-variants as C
-use Rattle.effects.specs.Told.{Told, gives, refused}
+use Rattle.refusal.specs.Told.{Told, gives, refused}
 use Rattle.effects.specs.Effect.{effectOf}
 
 -- 01, Numbers by the place of checking: the place of an effect in the list, D to E

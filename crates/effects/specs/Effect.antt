@@ -11,7 +11,7 @@ use Rattle.refusal.specs.Refusal.{numberOf}
 use Rattle.refusal.specs.declared.Refusal.the-variants.{EffectNotWhole, EffectOutOfRange}
 use Rattle.effects.specs.declared.Effect.{Effect}
 use Rattle.effects.specs.declared.Effect.the-variants.{Whole, NotWhole, Beyond}
-use Rattle.effects.specs.Told.{Told, gives, refused}
+use Rattle.refusal.specs.Told.{Told, gives, refused}
 
 -- 01, Numbers by the place of checking: the value of a double, a whole number or not
 pub data Value : Type 0 where

@@ -1,5 +1,4 @@
--- What an answer tells, what an effect is, and the check of the seven.
-pub mod Told
+-- What an effect is, and the check of the seven.
 pub mod Effect
 pub mod Check
 pub mod Fit

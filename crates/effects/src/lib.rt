@@ -1,7 +1,7 @@
 // The effects of loads, handed over as doubles and checked: whole newtons, or the first that is refused.
 ghost use mathlib.Core.Path.{_≡_};
 ghost use Rattle.refusal.specs.Refusal.{numberOf};
-ghost use Rattle.effects.specs.Told.{refused};
+ghost use Rattle.refusal.specs.Told.{refused};
 ghost use Rattle.effects.specs.Effect.{limit, within, effectOf, saidEffect};
 ghost use Rattle.effects.specs.Check.{placeOf, loadEffect, listed, newtonsOf, checkedOf, saidChecked};
 ghost use Rattle.effects.specs.Fit.{Seven};

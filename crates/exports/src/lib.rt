@@ -14,6 +14,8 @@ use combination::GoverningRow;
 use effects::Effects;
 use reduction::TributaryArea;
 
+pub mod lists;
+
 // What opening or entering gives: the paper's number, 0 where none holds, and the column.
 #[repr(C)]
 pub struct BungeroColumn {

@@ -13,6 +13,7 @@ mod rounding;
 mod share;
 
 // The floor area whose load a member carries, in dm².
+#[repr(C)]
 pub struct TributaryArea(pub u64);
 
 // The area that the reduction goes by: K times the summed tributary area of the formula lines

@@ -1,6 +1,6 @@
 -- `combination::combine` meets its contract: the check decides, and the governing rows are of what it gives. Assumes nothing.
 use mathlib.Core.Path.{_≡_, sym, _∙_, ap}
-use Rattle.effects.specs.Told.{gives}
+use Rattle.refusal.specs.Told.{gives}
 use Rattle.effects.specs.Check.{newtonsOf, checkedOf, saidChecked}
 use Rattle.combination.specs.Combine.{combined, combinedOf, saidCombined}
 use Rattle.effects.proofs.Checks.{checked-seven}

@@ -8,7 +8,7 @@ use lib.IntN.{ℤ}
 use lib.Ieee.{Float}
 use lib.ListN.{length, getD, take, drop}
 use Rattle.effects.specs.declared.LoadEffect.{LoadEffect}
-use Rattle.effects.specs.Told.{gives, refused}
+use Rattle.refusal.specs.Told.{gives, refused}
 use Rattle.effects.specs.Effect.{limit, effectOf, saidEffect}
 use Rattle.effects.specs.Check.{loadEffect, checkedFrom, checkedOf, saidChecked}
 use Rattle.effects.specs.Fit.{Seven}

@@ -14,7 +14,7 @@ use mir.ValLaws.{toZ-ofZ, toZ-pos}
 use borrow.Author.Needs.{needs}
 use borrow.Author.Tests.{le-leb, lt-leb}
 use Rattle.refusal.specs.Refusal.{numberOf}
-use Rattle.effects.specs.Told.{gives}
+use Rattle.refusal.specs.Told.{gives}
 use Rattle.effects.specs.Effect.{signed, limit, saidEffect}
 use Rattle.effects.proofs.Values.{Is, Fields, fields-of, not-nan, nan-value, zero-value, below-one, infinite, large-value, large-beyond, fraction-value, whole-value}
 use Rattle.effects.proofs.Limits.{effect-not-whole, effect-beyond, effect-whole, effect-signed}

@@ -5,7 +5,7 @@ use native.Mathlib.Omega.{arith}
 use lib.ListN.{length}
 use Rattle.text.specs.Text.{bytesOf}
 use Rattle.text.proofs.Puts.{put-then, put-left}
-use Rattle.effects.specs.Told.{gives}
+use Rattle.refusal.specs.Told.{gives}
 use Rattle.effects.specs.Check.{newtonsOf}
 use Rattle.combination.specs.Combine.{governing, combinedOf, saidCombined}
 use Rattle.combination.proofs.Answers.{newtons-combined}

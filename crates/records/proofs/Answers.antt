@@ -1,0 +1,252 @@
+-- The list call gives what opening the member, entering the lines and asking give, and its figure is within the bounds.
+-- Assumes nothing.
+use mathlib.Core.Path.{_≡_, refl, sym, _∙_, ap, subst⁻¹}
+use mathlib.Core.Bool.{Bool, true, false, cond}
+use mathlib.Core.List.{List, [], _∷_, _++_, append-nil}
+use mathlib.Core.Logic.{_⊎_, inl, inr}
+use Prim.Native.Nat.{ℕ, zero, suc, _+_, _≤_}
+use native.Mathlib.Omega.{arith}
+use lib.Dec.{eqb}
+use lib.ListN.{length}
+use lib.Seq.{append-snoc}
+use borrow.Author.Tests.{ne-eqb}
+use Rattle.refusal.specs.Said as said
+use Rattle.refusal.specs.Told.{Told, gives, refused}
+use Rattle.column.specs.declared.Line.{Line}
+use Rattle.column.specs.declared.Member.{Member}
+use Rattle.column.specs.declared.Column.{Column}
+use Rattle.column.specs.declared.Working.{Working}
+use Rattle.column.specs.Line.{hasFloor}
+use Rattle.column.specs.Accepted.{entryNumber, accepted}
+use Rattle.column.specs.Column.{Outcome, linesOf, columnOf, openedOf, enteredOf, after, workingOf, askedOf}
+use Rattle.column.specs.Demand3.{Claim}
+use Rattle.column.proofs.Columns.{column-lines}
+use Rattle.column.proofs.Reach.{entered-accepted, opened-column, after-opened}
+use Rattle.column.proofs.Demand3.{demand3}
+use Rattle.records.specs.Listed.{atPlace, listedFrom, listedOf, Bounds}
+use Rattle.records.specs.AsEntered.{NoneRefused, none, more, Stops, EveryList, AtOpening, AtFirst, AsEntered, FigureOfAll}
+use Rattle.records.specs.Entering.{State, begunOf, entersLine, steppedOf, enteredAll, answerOf}
+use Rattle.records.proofs.Steps.{step-stays, answer-refuses}
+
+-- ---- a number tells whether something is refused
+
+by-number : {P : Type 0} (n : ℕ) → (n ≡ 0 → P) → (1 ≤ n → P) → P
+by-number zero is-zero is-more = is-zero refl
+by-number (suc n) is-zero is-more = is-more (omega arith)
+
+not-zero : {n : ℕ} → 1 ≤ n → eqb n 0 ≡ false
+not-zero {n} h = ne-eqb n 0 (λ q. omega arith)
+
+-- an answer that refuses gives no figure
+no-figure : {P : Type 0} {t : Told ℕ Working} {n place : ℕ} {w : Working} → t ≡ refused n place → t ≡ gives w → P
+no-figure p q = let z : _≡_ {A = ℕ} 0 1 = cc in absurd (omega arith)
+
+-- ---- what the private functions keep
+
+-- these lines are entered and none is refused
+abbrev going : Member → List Line → ℕ → State
+going m ls place = record { place = place; outcome = record { number = 0; column = columnOf m ls } }
+
+-- after a refusal nothing changes, so it is the answer
+all-refused : (s : State) (lines : List Line) (f : ℕ) → 1 ≤ s .outcome .number
+    → answerOf (enteredAll s lines) f ≡ refused (s .outcome .number) (s .place)
+unfolding enteredAll
+all-refused s [] f h = answer-refuses s h f
+all-refused s (l ∷ lines) f h = ap (λ (t : State). answerOf (enteredAll t lines) f) (step-stays s h l) ∙ all-refused s lines f h
+
+-- ---- the member is opened, and the lines follow, or it is refused
+
+module _ (m : Member) where
+  begun-opened : openedOf m .number ≡ 0 → begunOf m ≡ going m [] 0
+  unfolding begunOf
+  begun-opened e = λ i. record { place = 0; outcome = record { number = e i; column = opened-column m e i } }
+
+  module _ (lines : List Line) (f : ℕ) where
+    listed-opened : openedOf m .number ≡ 0 → listedOf m lines f ≡ listedFrom m [] lines f
+    unfolding listedOf
+    listed-opened e = rw e
+
+    listed-unopened : 1 ≤ openedOf m .number → listedOf m lines f ≡ refused (openedOf m .number) 0
+    unfolding listedOf
+    listed-unopened h = rw (not-zero h)
+
+-- ---- a line joins the lines before it, and the others follow, or it is refused
+
+module _ (m : Member) (ls : List Line) (l : Line) where
+  -- entering a line on the column of some lines checks it after these lines
+  column-number : enteredOf (columnOf m ls) l .number ≡ entryNumber m ls l
+  unfolding enteredOf columnOf
+  column-number = rw (column-lines m ls)
+
+  -- where no condition holds it is the last line of the column then
+  column-entered : entryNumber m ls l ≡ 0
+      → enteredOf (columnOf m ls) l ≡ record { number = 0; column = columnOf m (ls ++ (l ∷ [])) }
+  unfolding columnOf
+  column-entered e = entered-accepted (columnOf m ls) l (rw (column-lines m ls) e) ∙ rw (column-lines m ls)
+
+  module _ (lines : List Line) (f : ℕ) where
+    listed-on : entryNumber m ls l ≡ 0 → listedFrom m ls (l ∷ lines) f ≡ listedFrom m (ls ++ (l ∷ [])) lines f
+    unfolding listedFrom
+    listed-on e = rw e
+
+    listed-stop : 1 ≤ entryNumber m ls l → listedFrom m ls (l ∷ lines) f ≡ refused (entryNumber m ls l) (length ls + 1)
+    unfolding listedFrom
+    listed-stop h = rw (not-zero h)
+
+    -- the same of what the private functions keep
+    entered-on : (place : ℕ) → entryNumber m ls l ≡ 0
+        → answerOf (enteredAll (going m ls place) (l ∷ lines)) f ≡ answerOf (enteredAll (going m (ls ++ (l ∷ [])) (length ls + 1)) lines) f
+    unfolding enteredAll steppedOf entersLine columnOf
+    entered-on place e =
+        ap (λ (o : Outcome). answerOf (enteredAll (record { place = length ls + 1; outcome = o }) lines) f) (column-entered e)
+
+    entered-stop : (place : ℕ) → 1 ≤ entryNumber m ls l
+        → answerOf (enteredAll (going m ls place) (l ∷ lines)) f ≡ refused (entryNumber m ls l) (length ls + 1)
+    unfolding enteredAll steppedOf entersLine columnOf
+    entered-stop place h =
+        let s : State = record { place = length ls + 1; outcome = enteredOf (columnOf m ls) l } in
+        all-refused s lines f (rw column-number h) ∙ rw column-number
+
+-- ---- all the lines
+
+-- entering the lines that are left gives what the definition gives of them
+entered-from : (m : Member) (ls lines : List Line) (place f : ℕ)
+    → answerOf (enteredAll (going m ls place) lines) f ≡ listedFrom m ls lines f
+unfolding enteredAll answerOf listedFrom columnOf
+entered-from m ls [] place f = rw (column-lines m ls)
+entered-from m ls (l ∷ lines) place f =
+    by-number (entryNumber m ls l)
+    (λ e. entered-on m ls l lines f place e ∙ (entered-from m (ls ++ (l ∷ [])) lines (length ls + 1) f ∙ sym (listed-on m ls l lines f e)))
+    (λ h. entered-stop m ls l lines f place h ∙ sym (listed-stop m ls l lines f h))
+
+-- what the private functions keep answers as the definition says
+pub entered-listed : (m : Member) (lines : List Line) (f : ℕ) → answerOf (enteredAll (begunOf m) lines) f ≡ listedOf m lines f
+unfolding begunOf
+entered-listed m lines f =
+    by-number (openedOf m .number)
+    (λ e. rw (begun-opened m e, listed-opened m lines f e) (entered-from m [] lines 0 f))
+    (λ h. all-refused (begunOf m) lines f h ∙ sym (listed-unopened m lines f h))
+
+-- ---- lines of which none is refused
+
+-- they join the lines before them, and the others follow
+record Joined (m : Member) (ls lines : List Line) : Type 0 where
+  column : after (columnOf m ls) lines ≡ columnOf m (ls ++ lines)
+  listed : (rest : List Line) (f : ℕ) → listedFrom m ls (lines ++ rest) f ≡ listedFrom m (ls ++ lines) rest f
+
+none-refused : (m : Member) (ls lines : List Line) → NoneRefused (columnOf m ls) lines → Joined m ls lines
+unfolding after
+none-refused m ls [] none = record { column = rw (append-nil ls); listed = λ rest f. rw (append-nil ls) }
+none-refused m ls (l ∷ lines) (more e h) =
+    let a : entryNumber m ls l ≡ 0 = sym (column-number m ls l) ∙ e in
+    let c : enteredOf (columnOf m ls) l .column ≡ columnOf m (ls ++ (l ∷ [])) = rw (column-entered m ls l a) in
+    let j = none-refused m (ls ++ (l ∷ [])) lines (rw c at h) in
+    record {
+      column = rw c (rw (append-snoc ls l lines) at (j .column));
+      listed = λ rest f. listed-on m ls l (lines ++ rest) f a ∙ (rw (append-snoc ls l lines) at (j .listed rest f));
+    }
+
+-- from the first line on: they are the lines of the column, and the accepted ones, and the answer is as after them
+module _ (m : Member) (lines : List Line) (opened : openedOf m .number ≡ 0) (h : NoneRefused (openedOf m .column) lines) where
+  joined : Joined m [] lines
+  joined = none-refused m [] lines (rw (opened-column m opened) at h)
+
+  all-column : after (openedOf m .column) lines ≡ columnOf m lines
+  all-column = rw (opened-column m opened) (joined .column)
+
+  all-accepted : accepted m lines ≡ lines
+  all-accepted =
+      let e : columnOf m (accepted m lines) ≡ columnOf m lines = sym (after-opened m lines opened) ∙ all-column in
+      sym (column-lines m (accepted m lines)) ∙ (ap linesOf e ∙ column-lines m lines)
+
+  all-listed : (rest : List Line) (f : ℕ) → listedOf m (lines ++ rest) f ≡ listedFrom m lines rest f
+  all-listed rest f = listed-opened m (lines ++ rest) f opened ∙ joined .listed rest f
+
+  all-asked : (f : ℕ) → listedOf m lines f ≡ atPlace 0 (askedOf m lines f)
+  unfolding listedFrom
+  all-asked f = rw (append-nil lines) at (all-listed [] f)
+
+-- ---- every list, and its answer
+
+-- a line that is entered before a list
+onward : (c : Column) (l : Line) (lines : List Line) → enteredOf c l .number ≡ 0
+    → NoneRefused (enteredOf c l .column) lines ⊎ Stops (enteredOf c l .column) lines → NoneRefused c (l ∷ lines) ⊎ Stops c (l ∷ lines)
+unfolding after
+onward c l lines e (inl h) = inl (more e h)
+onward c l lines e (inr s) =
+    inr (record {
+      before = l ∷ s .before;
+      line = s .line;
+      rest = s .rest;
+      is = ap (λ (ls : List Line). l ∷ ls) (s .is);
+      accepted = more e (s .accepted);
+      refused = s .refused;
+    })
+
+-- no line of a list is refused, or a first one is
+pub every-list : EveryList
+unfolding after
+every-list c [] = inl none
+every-list c (l ∷ lines) =
+    by-number (enteredOf c l .number)
+    (λ e. onward c l lines e (every-list (enteredOf c l .column) lines))
+    (λ k. inr (record { before = []; line = l; rest = lines; is = refl; accepted = none; refused = k }))
+
+-- 01, Member, line, floor: the code's refusal
+pub at-opening : AtOpening
+at-opening m lines f h = listed-unopened m lines f h
+
+-- 01, Member, line, floor: the first refused line's
+pub at-first : AtFirst
+at-first m lines f opened s =
+    let ls = s .before in
+    let number : enteredOf (after (openedOf m .column) ls) (s .line) .number ≡ entryNumber m ls (s .line) =
+    ap (λ (c : Column). enteredOf c (s .line) .number) (all-column m ls opened (s .accepted)) ∙ column-number m ls (s .line) in
+    ap (λ (ks : List Line). listedOf m ks f) (s .is)
+    ∙ (all-listed m ls opened (s .accepted) (s .line ∷ s .rest) f
+    ∙ (listed-stop m ls (s .line) (s .rest) f (rw number at (s .refused))
+    ∙ ap (λ (n : ℕ). refused n (length ls + 1)) (sym number)))
+
+-- 01, Member, line, floor: where no line is refused, the answer is that of opening the member, entering all and asking
+pub as-entered : AsEntered
+unfolding columnOf
+as-entered m lines f opened h = rw (all-column m lines opened h, column-lines m lines) (all-asked m lines opened h f)
+
+-- ---- an answer that gives a figure
+
+-- 01, Member, line, floor: the member is then opened and no line refused
+pub figure-of-all : FigureOfAll
+figure-of-all m lines f w given =
+    by-number (openedOf m .number)
+    (λ opened. (opened, go opened (every-list (openedOf m .column) lines)))
+    (λ k. no-figure (at-opening m lines f k) given)
+  where
+    go : openedOf m .number ≡ 0 → NoneRefused (openedOf m .column) lines ⊎ Stops (openedOf m .column) lines → NoneRefused (openedOf m .column) lines
+    go opened (inl h) = h
+    go opened (inr s) = no-figure (at-first m lines f opened s) given
+
+-- a line has the floor
+figure-floor : (m : Member) (ls : List Line) (f : ℕ) (w : Working) → atPlace 0 (askedOf m ls f) ≡ gives w → hasFloor f ls ≡ true
+unfolding atPlace askedOf
+figure-floor m ls f w h = go (hasFloor f ls) h
+  where
+    go : (b : Bool) → atPlace 0 (cond b (said.gives (workingOf m ls f)) (said.refused 7)) ≡ gives w → b ≡ true
+    go true h = refl
+    go false h = no-figure refl h
+
+-- 01, Reduced load and figure: the figure is within the bounds, over the lines of the list
+pub listed-bounds : (m : Member) (lines : List Line) (f : ℕ) → Bounds m lines f (listedOf m lines f)
+unfolding Bounds Claim atPlace
+listed-bounds m lines f w h =
+    let all = figure-of-all m lines f w h in
+    let same = all-accepted m lines (all .0) (all .1) in
+    let floor : hasFloor f lines ≡ true = figure-floor m lines f w (sym (all-asked m lines (all .0) (all .1) f) ∙ h) in
+    let d = demand3 m lines f (all .0) (rw same floor) in
+    let given : gives (d .working) ≡ gives w = ap (atPlace 0) (sym (d .given)) ∙ (sym (as-entered m lines f (all .0) (all .1)) ∙ h) in
+    let is : d .working ≡ w = cc in
+    rw (same, is) at (d .bounded)
+
+-- so an answer that says what the definition says promises both
+pub promised : (m : Member) (lines : List Line) (f : ℕ) {t : Told ℕ Working} → t ≡ listedOf m lines f
+    → (t ≡ listedOf m lines f) × Bounds m lines f t
+promised m lines f h = (h, subst⁻¹ (Bounds m lines f) h (listed-bounds m lines f))

@@ -1,0 +1,22 @@
+-- What the call over a list gives in the examples holds.
+-- Assumes nothing.
+use mathlib.Core.Path.{refl}
+use Rattle.refusal.specs.Lists.{All, none, more}
+use Rattle.reduction.specs.Numbers.{leastFrom}
+use Rattle.reduction.specs.Member.{table4·2, tableFactor}
+use Rattle.reduction.specs.Share.{isFormula, oneFloor, rootAtLeast, rootAtMost, leastTwentieths, formulaShare, otherTwentieths, shareOf}
+use Rattle.reduction.specs.Reduced.{reaches, reduced}
+use Rattle.column.specs.Lists.{keep, some, total}
+use Rattle.column.specs.Line.{isFormulaLine, formulaLines, carried, hasFloor, floorsOf, areaOf, influenceOf}
+use Rattle.column.specs.Figure.{lineFigure, figureOf}
+use Rattle.column.specs.Accepted.{lastFloor, firstCondition, entryNumber}
+use Rattle.column.specs.Column.{openedOf, workingOf, askedOf}
+use Rattle.column.specs.Entries.{entriesOf}
+use Rattle.column.specs.Examples.{heavyAbove, sampleSheet}
+use Rattle.records.specs.Listed.{atPlace, listedFrom, listedOf}
+use Rattle.records.specs.Examples.{mistyped, examples, Says}
+
+-- 01, Figures to check against, The sheet, and Member, line, floor: every example, by computing it
+pub examples-hold : All Says examples
+unfolding examples heavyAbove sampleSheet mistyped Says listedOf listedFrom atPlace entriesOf openedOf askedOf workingOf entryNumber firstCondition lastFloor figureOf lineFigure influenceOf areaOf floorsOf hasFloor carried formulaLines isFormulaLine keep some total tableFactor table4·2 shareOf isFormula formulaShare otherTwentieths oneFloor rootAtLeast rootAtMost leastTwentieths reduced reaches leastFrom
+examples-hold = more refl (more refl (more refl (more refl (more refl (more refl (more refl (more refl none)))))))

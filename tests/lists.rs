@@ -1,0 +1,200 @@
+// Tries the exported list call from Rust: figures of the paper, counts of lines, a refusal at every place, lists by lot beside
+// the column's own calls, and the lists of the second reckoning.
+#[allow(dead_code)]
+mod bungero;
+mod lot;
+
+use bungero::{bungero_ask, bungero_enter, bungero_figure_of, bungero_open, Line};
+use lot::lot;
+use std::fs;
+
+// What a list gives: n, X and the figure, or the number and place of the first refusal.
+#[derive(Clone, Copy, Debug, PartialEq)]
+enum Answer {
+    Gives(u64, u64, u64),
+    Refused(u64, u64),
+}
+
+fn line(floor: u64, class: u64, load: u64, area: u64) -> Line {
+    Line { floor, class, load, area }
+}
+
+// Numbers that answer the call, the unused ones being 0.
+fn answer(number: u64, place: u64, working: [u64; 3]) -> Answer {
+    if number == 0 {
+        assert_eq!(place, 0, "a place without a refusal");
+        return Answer::Gives(working[0], working[1], working[2]);
+    }
+    assert_eq!(working, [0; 3], "a refusal with a figure");
+    Answer::Refused(number, place)
+}
+
+// The call, on a list lent from the middle of a larger one, all of which stays as it was.
+fn listed(code: u64, lines: &[Line], floor: u64) -> Answer {
+    let beside = line(1, 1, 4999, 199_999);
+    let lent = [&[beside; 2], lines, &[beside; 2]].concat();
+    let before = lent.clone();
+    let given = unsafe { bungero_figure_of(code, lent[2..].as_ptr(), lines.len(), floor) };
+    assert!(lent == before, "a lent list was written to");
+    answer(given.number, given.place, [given.floors, given.influence, given.figure])
+}
+
+// The same by the column's own calls: open, enter until a line is refused, ask.
+fn entered(code: u64, lines: &[Line], floor: u64) -> Answer {
+    let opened = unsafe { bungero_open(code) };
+    if opened.number != 0 {
+        return Answer::Refused(opened.number, 0);
+    }
+    let mut column = opened.column;
+    for (before, each) in lines.iter().enumerate() {
+        let entered = unsafe { bungero_enter(column, each.floor, each.class, each.load, each.area) };
+        if entered.number != 0 {
+            return Answer::Refused(entered.number, before as u64 + 1);
+        }
+        column = entered.column;
+    }
+    let asked = unsafe { bungero_ask(column, floor) };
+    answer(asked.number, 0, [asked.floors, asked.influence, asked.figure])
+}
+
+// The columns of which the paper prints figures, and its sample sheet.
+fn try_printed() {
+    let heavy_above = [line(1, 1, 6000, 10_000), line(2, 1, 2000, 100)];
+    assert_eq!(listed(1, &heavy_above, 1), Answer::Gives(1, 0, 60_000_000));
+    assert_eq!(listed(1, &heavy_above, 2), Answer::Gives(2, 400, 48_200_000));
+    let sample = [line(1, 1, 2000, 1600), line(2, 1, 2000, 1600)];
+    assert_eq!(listed(1, &sample, 1), Answer::Gives(1, 6400, 2_628_800));
+    assert_eq!(listed(1, &sample, 2), Answer::Gives(2, 12_800, 4_185_600));
+}
+
+// Good lines, four a floor.
+fn good_lines(count: u64) -> Vec<Line> {
+    (0..count).map(|i| line(1 + i / 4 % 64, 1 + i % 3, 1 + i * 190, 1 + i * 777)).collect()
+}
+
+// No line, 256 and one more, with good codes and bad ones.
+fn try_counts() {
+    for code in 0..=14 {
+        let refused = |number, place| if (1..=12).contains(&code) { Answer::Refused(number, place) } else { Answer::Refused(1, 0) };
+        assert_eq!(listed(code, &[], 1), refused(7, 0));
+        let lines = good_lines(256);
+        assert_eq!(listed(code, &lines, 64), entered(code, &lines, 64));
+        assert_eq!(listed(code, &lines, 65), refused(7, 0));
+        let one_more = [&lines[..], &[line(64, 1, 1, 1)]].concat();
+        assert_eq!(listed(code, &one_more, 64), refused(2, 257));
+        assert_eq!(listed(code, &one_more, 65), refused(2, 257));
+    }
+    let given = unsafe { bungero_figure_of(1, [].as_ptr(), 0, 1) };
+    assert_eq!((given.number, given.place), (7, 0), "a list lent from nowhere");
+}
+
+// The line with one of its numbers out of range; which, 0 for the floor to 3 for the area, is three less than the refusal's number.
+fn damaged(good: &Line, which: u64) -> Line {
+    let mut bad = *good;
+    match which {
+        0 => bad.floor = 0,
+        1 => bad.class = 4,
+        2 => bad.load = 50_001,
+        _ => bad.area = (1 << 32) + 1,
+    }
+    bad
+}
+
+// A refusal at every place of every list of some lengths, with each number, alone and before a later refusal with
+// another number, whether a line has the floor or not.
+fn try_places() -> u64 {
+    let mut tried = 0;
+    for count in [1, 2, 3, 64, 255, 256, 257] {
+        let good = good_lines(count);
+        for place in 0..good.len().min(256) {
+            for which in 0..4 {
+                let mut lines = good.clone();
+                lines[place] = damaged(&good[place], which);
+                let refused = Answer::Refused(which + 3, place as u64 + 1);
+                assert_eq!(listed(1, &lines, 1), refused);
+                let last = good.len() - 1;
+                if place < last {
+                    lines[last] = damaged(&good[last], (which + 1) % 4);
+                }
+                assert_eq!(listed(1, &lines, 99), refused);
+                tried += 2;
+            }
+        }
+    }
+    tried
+}
+
+// A list by lot: floors from the top down, and about one line in `faults` damaged, none where that is 0.
+fn list_by_lot(draw: &mut impl FnMut(u64) -> u64, faults: u64) -> Vec<Line> {
+    let count = [draw(8), draw(40), 250 + draw(12)][[0, 0, 0, 1, 1, 1, 1, 2][draw(8) as usize]];
+    let steps = 1 + draw(4);
+    let mut floor = 1;
+    let mut lines = Vec::new();
+    for _ in 0..count {
+        floor = (floor + draw(steps)).min(64);
+        let most_area = [300, 3000, 200_000][draw(3) as usize];
+        let mut each = line(floor, 1 + draw(3), 1 + draw(7000), 1 + draw(most_area));
+        if faults != 0 && draw(faults) == 0 {
+            let value = [0, 1, 4, 65, 257, 50_001, 65_536 + 2000, 200_001, (1 << 32) + 1, u64::MAX][draw(10) as usize];
+            *[&mut each.floor, &mut each.class, &mut each.load, &mut each.area][draw(4) as usize] = value;
+        }
+        lines.push(each);
+    }
+    lines
+}
+
+// Lists by lot, at floors that a line has and at others: what the column's own calls give. How many gave a figure, and how many
+// each number.
+fn try_lots(lists: u64) -> [u64; 8] {
+    let mut draw = lot(1);
+    let mut counts = [0; 8];
+    for case in 0..lists {
+        let code = if case % 20 == 0 { draw(20) } else { 1 + draw(12) };
+        let lines = list_by_lot(&mut draw, [0, 0, 100, 10][case as usize % 4]);
+        let floors = [draw(66), lines.first().map_or(1, |l| l.floor), lines.last().map_or(64, |l| l.floor)];
+        for floor in floors {
+            let ours = listed(code, &lines, floor);
+            assert_eq!(ours, entered(code, &lines, floor), "code {code}, floor {floor}, {lines:?}");
+            counts[if let Answer::Refused(number, _) = ours { number as usize } else { 0 }] += 1;
+        }
+    }
+    assert!(counts.iter().all(|&count| count >= 50), "a kind of answer is missing: {counts:?}");
+    counts
+}
+
+// A list of the second reckoning: code, floor and the lines' numbers, and its answer.
+fn reckoned(text: &str) -> (u64, u64, Vec<Line>, Answer) {
+    let (question, wanted) = text.split_once(" = ").unwrap();
+    let numbers: Vec<u64> = question.split(' ').map(|each| each.parse().unwrap()).collect();
+    assert_eq!(numbers.len() % 4, 2, "{text}");
+    let lines = numbers[2..].chunks(4).map(|four| line(four[0], four[1], four[2], four[3])).collect();
+    let words: Vec<&str> = wanted.split(' ').collect();
+    let number = |at: usize| words[at].parse().unwrap();
+    let answer = match words[0] {
+        "refused" => Answer::Refused(number(1), number(3)),
+        _ => Answer::Gives(number(0), number(1), number(2)),
+    };
+    (numbers[0], numbers[1], lines, answer)
+}
+
+// Every list that the second reckoning wrote.
+fn try_reckoned(path: &str) -> usize {
+    let text = fs::read_to_string(path).unwrap();
+    for (at, each) in text.lines().enumerate() {
+        let (code, floor, lines, wanted) = reckoned(each);
+        assert_eq!(listed(code, &lines, floor), wanted, "list {} of {path}", at + 1);
+    }
+    text.lines().count()
+}
+
+fn main() {
+    let path = std::env::args().nth(1).expect("the file of the second reckoning's lists");
+    try_printed();
+    try_counts();
+    let places = try_places();
+    let counts = try_lots(5000);
+    let reckoned = try_reckoned(&path);
+    assert!(reckoned >= 5000, "only {reckoned} lists of the second reckoning");
+    println!("{places} refusals at their places; {} lists by lot as the column's own calls, {} with a figure", counts.iter().sum::<u64>(), counts[0]);
+    println!("{reckoned} lists as in the second reckoning");
+}
