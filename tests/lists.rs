@@ -84,8 +84,10 @@ fn try_counts() {
         assert_eq!(listed(code, &one_more, 64), refused(2, 257));
         assert_eq!(listed(code, &one_more, 65), refused(2, 257));
     }
-    let given = unsafe { bungero_figure_of(1, [].as_ptr(), 0, 1) };
-    assert_eq!((given.number, given.place), (7, 0), "a list lent from nowhere");
+    for nowhere in [std::ptr::null(), [].as_ptr()] {
+        let given = unsafe { bungero_figure_of(1, nowhere, 0, 1) };
+        assert_eq!((given.number, given.place), (7, 0), "no lines, lent from nowhere");
+    }
 }
 
 // The line with one of its numbers out of range; which, 0 for the floor to 3 for the area, is three less than the refusal's number.
