@@ -197,6 +197,7 @@ fn main() {
     let counts = try_lots(5000);
     let reckoned = try_reckoned(&path);
     assert!(reckoned >= 5000, "only {reckoned} lists of the second reckoning");
-    println!("{places} refusals at their places; {} lists by lot as the column's own calls, {} with a figure", counts.iter().sum::<u64>(), counts[0]);
+    println!("{places} refusals at their places");
+    println!("{} questions about lists by lot as the column's own calls answer, {} with a figure", counts.iter().sum::<u64>(), counts[0]);
     println!("{reckoned} lists as in the second reckoning");
 }
