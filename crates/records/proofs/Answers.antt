@@ -6,10 +6,8 @@ use mathlib.Core.List.{List, [], _∷_, _++_, append-nil}
 use mathlib.Core.Logic.{_⊎_, inl, inr}
 use Prim.Native.Nat.{ℕ, zero, suc, _+_, _≤_}
 use native.Mathlib.Omega.{arith}
-use lib.Dec.{eqb}
 use lib.ListN.{length}
 use lib.Seq.{append-snoc}
-use borrow.Author.Tests.{ne-eqb}
 use Rattle.refusal.specs.Said as said
 use Rattle.refusal.specs.Told.{Told, gives, refused}
 use Rattle.column.specs.declared.Line.{Line}
@@ -26,16 +24,13 @@ use Rattle.column.proofs.Demand3.{demand3}
 use Rattle.records.specs.Listed.{atPlace, listedFrom, listedOf, Bounds}
 use Rattle.records.specs.AsEntered.{NoneRefused, none, more, Stops, EveryList, AtOpening, AtFirst, AsEntered, FigureOfAll}
 use Rattle.records.specs.Entering.{State, begunOf, entersLine, steppedOf, enteredAll, answerOf}
-use Rattle.records.proofs.Steps.{step-stays, answer-refuses}
+use Rattle.records.proofs.Steps.{not-zero, step-stays, answer-refuses}
 
 -- ---- a number tells whether something is refused
 
 by-number : {P : Type 0} (n : ℕ) → (n ≡ 0 → P) → (1 ≤ n → P) → P
 by-number zero is-zero is-more = is-zero refl
 by-number (suc n) is-zero is-more = is-more (omega arith)
-
-not-zero : {n : ℕ} → 1 ≤ n → eqb n 0 ≡ false
-not-zero {n} h = ne-eqb n 0 (λ q. omega arith)
 
 -- an answer that refuses gives no figure
 no-figure : {P : Type 0} {t : Told ℕ Working} {n place : ℕ} {w : Working} → t ≡ refused n place → t ≡ gives w → P

@@ -1,10 +1,12 @@
 -- A step of a list and its end: where nothing was refused before, and after a refusal.
 -- Assumes nothing.
 use mathlib.Core.Path.{_≡_, sym, _∙_, ap}
+use mathlib.Core.Bool.{false}
 use mathlib.Core.List.{List}
 use Prim.Native.Nat.{ℕ, _+_, _≤_, _<_}
 use native.Mathlib.Omega.{arith}
 use native.Mathlib.Numerals.{add-one}
+use lib.Dec.{eqb}
 use lib.ListN.{length, getD, drop}
 use lib.Seq.{drop-cons, drop-length}
 use borrow.Author.Tests.{ne-eqb}
@@ -18,6 +20,10 @@ use Rattle.column.specs.Column.{asked, verdictNumber, outcome}
 use Rattle.records.specs.declared.entering.Entered.{Entered}
 use Rattle.records.specs.Listed.{atPlace}
 use Rattle.records.specs.Entering.{State, stateOf, entersLine, steppedOf, enteredAll, answerOf}
+
+-- a number of a refusal is not 0
+pub not-zero : {n : ℕ} → 1 ≤ n → eqb n 0 ≡ false
+not-zero {n} h = ne-eqb n 0 (λ q. omega arith)
 
 -- the verdict tells which it is
 module _ (e : Entered) where
@@ -46,11 +52,11 @@ module _ (s : State) (none : s .outcome .number ≡ 0) where
 module _ (s : State) (some : 1 ≤ s .outcome .number) where
   pub step-stays : (l : Line) → steppedOf s l ≡ s
   unfolding steppedOf
-  step-stays l = rw (ne-eqb (s .outcome .number) 0 (λ q. omega arith))
+  step-stays l = rw (not-zero some)
 
   pub answer-refuses : (f : ℕ) → answerOf s f ≡ refused (s .outcome .number) (s .place)
   unfolding answerOf
-  answer-refuses f = rw (ne-eqb (s .outcome .number) 0 (λ q. omega arith))
+  answer-refuses f = rw (not-zero some)
 
 -- a refused verdict is the answer
 pub refused-answer : (e : Entered) (r : Refusal) (f : ℕ) → e .changed .verdict ≡ Refused r → refused (numberOf r) (e .place) ≡ answerOf (stateOf e) f
