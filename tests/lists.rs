@@ -1,11 +1,16 @@
-// Tries the exported list call from Rust: figures of the paper, counts of lines, a refusal at every place, lists by lot beside
-// the column's own calls, and the lists of the second reckoning.
-#[allow(dead_code)]
+// Tries the exported list call from Rust: figures of the paper, counts of lines, a refusal at every place, random lists beside
+// the column's own calls and two second reckonings, in Rust as it runs and in Python from a file.
+#[path = "../bindings/bungero.rs"]
 mod bungero;
-mod lot;
+#[allow(dead_code)]
+#[path = "../bench/random.rs"]
+mod random;
+#[allow(dead_code)]
+mod reckoning;
 
-use bungero::{bungero_ask, bungero_enter, bungero_figure_of, bungero_open, Line};
-use lot::lot;
+use bungero::raw::bungero_figure_of;
+use bungero::{figure_of, Column, Line, Refused, RefusedLine, Working};
+use random::Random;
 use std::fs;
 
 // What a list gives: n, X and the figure, or the number and place of the first refusal.
@@ -39,22 +44,39 @@ fn listed(code: u64, lines: &[Line], floor: u64) -> Answer {
     answer(given.number, given.place, [given.floors, given.influence, given.figure])
 }
 
+fn gives(working: Working) -> Answer {
+    Answer::Gives(working.floors, working.influence, working.figure)
+}
+
+// The same by the safe call.
+fn listed_safely(code: u64, lines: &[Line], floor: u64) -> Answer {
+    match figure_of(code, lines, floor) {
+        Ok(working) => gives(working),
+        Err(RefusedLine { number, place }) => Answer::Refused(number, place),
+    }
+}
+
 // The same by the column's own calls: open, enter until a line is refused, ask.
 fn entered(code: u64, lines: &[Line], floor: u64) -> Answer {
-    let opened = unsafe { bungero_open(code) };
-    if opened.number != 0 {
-        return Answer::Refused(opened.number, 0);
-    }
-    let mut column = opened.column;
+    let mut column = match Column::open(code) {
+        Ok(column) => column,
+        Err(Refused { number }) => return Answer::Refused(number, 0),
+    };
     for (before, each) in lines.iter().enumerate() {
-        let entered = unsafe { bungero_enter(column, each.floor, each.class, each.load, each.area) };
-        if entered.number != 0 {
-            return Answer::Refused(entered.number, before as u64 + 1);
+        if let Err(Refused { number }) = column.enter(*each) {
+            return Answer::Refused(number, before as u64 + 1);
         }
-        column = entered.column;
     }
-    let asked = unsafe { bungero_ask(column, floor) };
-    answer(asked.number, 0, [asked.floors, asked.influence, asked.figure])
+    column.ask(floor).map_or_else(|refused| Answer::Refused(refused.number, 0), gives)
+}
+
+// The same by the second reckoning.
+fn reckoned(code: u64, lines: &[Line], floor: u64) -> Answer {
+    let numbers: Vec<[u64; 4]> = lines.iter().map(|each| [each.floor, each.class, each.load, each.area]).collect();
+    match reckoning::listed(code, &numbers, floor) {
+        Ok((floors, influence, figure)) => Answer::Gives(floors, influence, figure),
+        Err((number, place)) => Answer::Refused(number, place),
+    }
 }
 
 // The columns of which the paper prints figures, and its sample sheet.
@@ -75,7 +97,10 @@ fn good_lines(count: u64) -> Vec<Line> {
 // No line, 256 and one more, with good codes and bad ones.
 fn try_counts() {
     for code in 0..=14 {
-        let refused = |number, place| if (1..=12).contains(&code) { Answer::Refused(number, place) } else { Answer::Refused(1, 0) };
+        let refused = |number, place| match code {
+            1..=12 => Answer::Refused(number, place),
+            _ => Answer::Refused(1, 0),
+        };
         assert_eq!(listed(code, &[], 1), refused(7, 0));
         let lines = good_lines(256);
         assert_eq!(listed(code, &lines, 64), entered(code, &lines, 64));
@@ -90,7 +115,8 @@ fn try_counts() {
     }
 }
 
-// The line with one of its numbers out of range; which, 0 for the floor to 3 for the area, is three less than the refusal's number.
+// The line with one of its numbers out of range; which, 0 for the floor to 3 for the area, is three less than the refusal's
+// number.
 fn damaged(good: &Line, which: u64) -> Line {
     let mut bad = *good;
     match which {
@@ -126,36 +152,39 @@ fn try_places() -> u64 {
     tried
 }
 
-// A list by lot: floors from the top down, and about one line in `faults` damaged, none where that is 0.
-fn list_by_lot(draw: &mut impl FnMut(u64) -> u64, faults: u64) -> Vec<Line> {
-    let count = [draw(8), draw(40), 250 + draw(12)][[0, 0, 0, 1, 1, 1, 1, 2][draw(8) as usize]];
-    let steps = 1 + draw(4);
+// A random list: floors from the top down, and about one line in `faults` damaged, none where that is 0.
+fn random_list(random: &mut Random, faults: u64) -> Vec<Line> {
+    let (few, some, many) = (random.below(8), random.below(40), random.between(250, 261));
+    let count = random.pick(&[few, few, few, some, some, some, some, many]);
+    let steps = random.between(1, 4);
     let mut floor = 1;
     let mut lines = Vec::new();
     for _ in 0..count {
-        floor = (floor + draw(steps)).min(64);
-        let most_area = [300, 3000, 200_000][draw(3) as usize];
-        let mut each = line(floor, 1 + draw(3), 1 + draw(7000), 1 + draw(most_area));
-        if faults != 0 && draw(faults) == 0 {
-            let value = [0, 1, 4, 65, 257, 50_001, 65_536 + 2000, 200_001, (1 << 32) + 1, u64::MAX][draw(10) as usize];
-            *[&mut each.floor, &mut each.class, &mut each.load, &mut each.area][draw(4) as usize] = value;
+        floor = (floor + random.below(steps)).min(64);
+        let most_area = random.pick(&[300, 3000, 200_000]);
+        let mut each = line(floor, random.between(1, 3), random.between(1, 7000), random.between(1, most_area));
+        if faults != 0 && random.below(faults) == 0 {
+            let value = random.pick(&[0, 1, 4, 65, 257, 50_001, 65_536 + 2000, 200_001, (1 << 32) + 1, u64::MAX]);
+            *[&mut each.floor, &mut each.class, &mut each.load, &mut each.area][random.index(4)] = value;
         }
         lines.push(each);
     }
     lines
 }
 
-// Lists by lot, at floors that a line has and at others: what the column's own calls give. How many gave a figure, and how many
-// each number.
-fn try_lots(lists: u64) -> [u64; 8] {
-    let mut draw = lot(1);
+// Random lists, at floors that a line has and at others: one answer by every way. How many gave a figure, and how many each
+// number.
+fn try_random(lists: u64) -> [u64; 8] {
+    let random = &mut Random(1);
     let mut counts = [0; 8];
     for case in 0..lists {
-        let code = if case % 20 == 0 { draw(20) } else { 1 + draw(12) };
-        let lines = list_by_lot(&mut draw, [0, 0, 100, 10][case as usize % 4]);
-        let floors = [draw(66), lines.first().map_or(1, |l| l.floor), lines.last().map_or(64, |l| l.floor)];
+        let code = if case % 20 == 0 { random.below(20) } else { random.between(1, 12) };
+        let lines = random_list(random, [0, 0, 100, 10][case as usize % 4]);
+        let floors = [random.below(66), lines.first().map_or(1, |l| l.floor), lines.last().map_or(64, |l| l.floor)];
         for floor in floors {
             let ours = listed(code, &lines, floor);
+            assert_eq!(ours, reckoned(code, &lines, floor), "code {code}, floor {floor}, {lines:?}");
+            assert_eq!(ours, listed_safely(code, &lines, floor), "code {code}, floor {floor}, {lines:?}");
             assert_eq!(ours, entered(code, &lines, floor), "code {code}, floor {floor}, {lines:?}");
             counts[if let Answer::Refused(number, _) = ours { number as usize } else { 0 }] += 1;
         }
@@ -164,8 +193,8 @@ fn try_lots(lists: u64) -> [u64; 8] {
     counts
 }
 
-// A list of the second reckoning: code, floor and the lines' numbers, and its answer.
-fn reckoned(text: &str) -> (u64, u64, Vec<Line>, Answer) {
+// A list of the second reckoning's file: code, floor and the lines' numbers, and its answer.
+fn question(text: &str) -> (u64, u64, Vec<Line>, Answer) {
     let (question, wanted) = text.split_once(" = ").unwrap();
     let numbers: Vec<u64> = question.split(' ').map(|each| each.parse().unwrap()).collect();
     assert_eq!(numbers.len() % 4, 2, "{text}");
@@ -179,11 +208,11 @@ fn reckoned(text: &str) -> (u64, u64, Vec<Line>, Answer) {
     (numbers[0], numbers[1], lines, answer)
 }
 
-// Every list that the second reckoning wrote.
-fn try_reckoned(path: &str) -> usize {
+// Every list of the second reckoning's file.
+fn try_file(path: &str) -> usize {
     let text = fs::read_to_string(path).unwrap();
     for (at, each) in text.lines().enumerate() {
-        let (code, floor, lines, wanted) = reckoned(each);
+        let (code, floor, lines, wanted) = question(each);
         assert_eq!(listed(code, &lines, floor), wanted, "list {} of {path}", at + 1);
     }
     text.lines().count()
@@ -194,10 +223,12 @@ fn main() {
     try_printed();
     try_counts();
     let places = try_places();
-    let counts = try_lots(5000);
-    let reckoned = try_reckoned(&path);
-    assert!(reckoned >= 5000, "only {reckoned} lists of the second reckoning");
-    println!("{places} refusals at their places");
-    println!("{} questions about lists by lot as the column's own calls answer, {} with a figure", counts.iter().sum::<u64>(), counts[0]);
-    println!("{reckoned} lists as in the second reckoning");
+    let counts = try_random(20_000);
+    let stored = try_file(&path);
+    assert!(stored >= 5000, "only {stored} lists of the second reckoning in Python");
+    println!("{places} refusals of a list at their places");
+    let questions: u64 = counts.iter().sum();
+    println!("{questions} questions about random lists: list call, column's own calls and second reckoning agree");
+    println!("of these {} with a figure, and with the numbers 1 to 7: {:?}", counts[0], &counts[1..]);
+    println!("{stored} lists as in the second reckoning in Python");
 }

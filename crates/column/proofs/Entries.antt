@@ -7,8 +7,7 @@ use native.Mathlib.Numerals.{add-one}
 use native.Mathlib.Omega.{arith}
 use lib.ListN.{length, drop, getD, length-drop}
 use lib.Seq.{drop-cons}
-use Rattle.column.specs.Line.{line}
-use Rattle.column.specs.Entries.{entriesOf}
+use Rattle.column.specs.Line.{line, entriesOf}
 
 next : (ns : List ℕ) (i j : ℕ) → j ≡ i + 1 → i < length ns → drop i ns ≡ getD ns i 0 ∷ drop j ns
 next ns i j e h = rw (e, add-one, drop-cons ns i 0 h)

@@ -1,12 +1,7 @@
 -- Laws of the definitions, for the proofs here and in the crates above.
 pub mod Lists
-pub mod Roots
-pub mod Exact
 pub mod Lines
 pub mod Columns
 pub mod Reach
 pub mod InTurn
-pub mod Most
-pub mod Demand3
 pub mod Entries
-pub mod Examples

@@ -3,14 +3,14 @@
 use mathlib.Core.Path.{_≡_, refl, sym, _∙_, ap, subst⁻¹}
 use mathlib.Core.Bool.{Bool, true, false, cond, not, _||_, false≢true}
 use mathlib.Core.List.{List, [], _∷_, _++_}
-use Prim.Native.Nat.{ℕ, _+_, _≤_, _<_}
+use Prim.Native.Nat.{ℕ, _≤_, _<_}
 use native.Mathlib.Omega.{arith}
 use lib.Dec.{leb, ltb, eqb}
 use lib.ListN.{length, length-append}
-use borrow.Author.Tests.{leb-false, eqb-true, ne-eqb, not-false}
-use Rattle.reduction.specs.Numbers.{between}
+use borrow.Author.Tests.{leb-false, ltb-false, eqb-true, ne-eqb, not-false}
+use Rattle.member.specs.Numbers.{between}
 use Rattle.refusal.specs.Lists.{All, none}
-use Rattle.reduction.proofs.Tests.{limits}
+use Rattle.member.proofs.Tests.{limits}
 use Rattle.column.specs.declared.Line.{Line}
 use Rattle.column.specs.declared.Member.{Member}
 use Rattle.column.specs.declared.Column.{Column}
@@ -30,15 +30,15 @@ first-not true b h = refl
 first-not false b h = absurd (false≢true (sym h))
 
 -- a line for which no condition holds is within its limits, and there is room for it
-pub no-condition : (m : Member) (held last : ℕ) (l : Line) → firstCondition m held last l ≡ 0 → (held < 256) × InLimits l
+pub no-condition : (m : Member) (count last : ℕ) (l : Line) → firstCondition m count last l ≡ 0 → (count < 256) × InLimits l
 unfolding firstCondition
-no-condition m held last l h =
-    let full = passed (leb 256 held) 2 _ (omega arith) h in
+no-condition m count last l h =
+    let full = passed (leb 256 count) 2 _ (omega arith) h in
     let floor = passed (not (between 1 64 (l .floor)) || ltb (l .floor) last) 3 _ (omega arith) (full .1) in
     let class = passed (not (between 1 3 (l .class))) 4 _ (omega arith) (floor .1) in
     let load = passed (not (between 1 50000 (l .load))) 5 _ (omega arith) (class .1) in
     let area = passed (not (between 1 200000 (l .area .0))) 6 _ (omega arith) (load .1) in (
-      leb-false 256 held (full .0),
+      leb-false 256 count (full .0),
       record {
         floor = limits 1 64 (l .floor) (first-not (between 1 64 (l .floor)) (ltb (l .floor) last) (floor .0));
         class = limits 1 3 (l .class) (not-false _ (class .0));
@@ -46,6 +46,18 @@ no-condition m held last l h =
         area = limits 1 200000 (l .area .0) (not-false _ (area .0));
       },
     )
+
+second-not : (a b : Bool) → (a || b) ≡ false → b ≡ false
+second-not true b h = absurd (false≢true (sym h))
+second-not false b h = h
+
+-- and it is not above the last one
+pub not-above : (m : Member) (count last : ℕ) (l : Line) → firstCondition m count last l ≡ 0 → last ≤ l .floor
+unfolding firstCondition
+not-above m count last l h =
+    let full = passed (leb 256 count) 2 _ (omega arith) h in
+    let floor = passed (not (between 1 64 (l .floor)) || ltb (l .floor) last) 3 _ (omega arith) (full .1) in
+    ltb-false (l .floor) last (second-not (not (between 1 64 (l .floor))) (ltb (l .floor) last) (floor .0))
 
 -- lines that a column may hold
 pub record Holdable (ls : List Line) : Type 0 where
@@ -119,6 +131,15 @@ module _ (m : Member) where
   -- what opening it gave has no lines
   pub opened-column : openedOf m .number ≡ 0 → openedOf m .column ≡ columnOf m []
   opened-column h = opened-cases (between 1 12 (m .code)) refl h .1
+
+  refused-cases : (b : Bool) → between 1 12 (m .code) ≡ b → 1 ≤ openedOf m .number → openedOf m .column ≡ unopened
+  unfolding openedOf
+  refused-cases true e h = absurd (omega (arith, rw e at h))
+  refused-cases false e h = rw e
+
+  -- what a refused opening gave is not the member's
+  pub opened-refused : 1 ≤ openedOf m .number → openedOf m .column ≡ unopened
+  opened-refused h = refused-cases (between 1 12 (m .code)) refl h
 
   -- the column after a list of entries is that of the accepted lines
   pub after-opened : (es : List Line) → openedOf m .number ≡ 0 → after (openedOf m .column) es ≡ columnOf m (accepted m es)

@@ -5,7 +5,7 @@ use mathlib.Core.List.{List, [], _∷_, _++_}
 use Prim.Native.Nat.{ℕ}
 use lib.Dec.{leb, ltb, eqb}
 use lib.ListN.{length}
-use Rattle.reduction.specs.Numbers.{between}
+use Rattle.member.specs.Numbers.{between}
 use Rattle.column.specs.declared.Line.{Line}
 use Rattle.column.specs.declared.Member.{Member}
 
@@ -16,10 +16,10 @@ lastFloor (l ∷ []) = l .floor
 lastFloor (l ∷ (k ∷ ls)) = lastFloor (k ∷ ls)
 
 -- 01, Numbers by the place of checking: entering a line, the number of the first condition that holds; 0 where none does.
--- The lines held and the last floor are those of the accepted lines so far; no condition of 01 looks at the member
+-- The count and the last floor are those of the accepted lines so far; no condition of 01 looks at the member
 unfoldable pub firstCondition : Member → ℕ → ℕ → Line → ℕ
-firstCondition m held last l =
-    cond (leb 256 held) 2
+firstCondition m count last l =
+    cond (leb 256 count) 2
     (cond (not (between 1 64 (l .floor)) || ltb (l .floor) last) 3
     (cond (not (between 1 3 (l .class))) 4
     (cond (not (between 1 50000 (l .load))) 5

@@ -1,48 +1,38 @@
--- Paper 01, "Member, line, floor" and "Numbers by the place of checking": a column, and what opening, entering and asking give.
+-- Paper 01, "Member, line, floor" and "Numbers by the place of checking": a column, and what opening and entering give.
 -- Assumes nothing.
 use mathlib.Core.Path.{_≡_}
 use mathlib.Core.Bool.{cond}
-use mathlib.Core.List.{List, [], _∷_, _++_, map}
-use Prim.Native.Nat.{ℕ, _-_}
+use mathlib.Core.List.{List, [], _∷_, _++_}
+use Prim.Native.Nat.{ℕ, _+_, _*_, _-_}
 use lib.Dec.{eqb}
 use lib.ListN.{length, take, replicate}
 use Rattle.refusal.specs.Refusal.{numberOf}
-use Rattle.refusal.specs.Said.{Said, gives, refused}
-use Rattle.reduction.specs.Numbers.{between}
+use Rattle.member.specs.Numbers.{between}
 use Rattle.column.specs.declared.Line.{Line}
-use Rattle.column.specs.declared.Held.{Held}
 use Rattle.column.specs.declared.Member.{Member}
 use Rattle.column.specs.declared.Column.{Column}
 use Rattle.column.specs.declared.Verdict.{Verdict}
 use Rattle.column.specs.declared.Verdict.the-variants.{Accepted, Refused}
 use Rattle.column.specs.declared.Changed.{Changed}
-use Rattle.column.specs.declared.Working.{Working}
-use Rattle.column.specs.declared.Asked.{Asked}
-use Rattle.column.specs.declared.Asked.the-variants as asked-variants
-use Rattle.column.specs.Line.{line, carried, hasFloor, floorsOf, influenceOf}
-use Rattle.column.specs.Figure.{figureOf}
+use Rattle.column.specs.declared.Joined.{Joined}
+use Rattle.column.specs.Line.{line, entriesOf, numbersOf}
 use Rattle.column.specs.Accepted.{entryNumber}
-
--- the line that a place of the column holds, and the place that holds a line
-abbrev pub lineOf : Held → Line
-lineOf h = line (h .floor) (h .class) (h .load) (h .area)
-
-abbrev pub heldOf : Line → Held
-heldOf l = record { floor = l .floor; class = l .class; load = l .load; area = l .area .0 }
-
--- a place that holds no line
-abbrev pub unused : Held
-unused = record { floor = 0; class = 0; load = 0; area = 0 }
 
 -- 01, Reduced load and figure: the accepted lines of a column, in order
 unfoldable pub linesOf : Column → List Line
-linesOf c = map lineOf (take (c .count) (c .held))
+linesOf c = entriesOf (take (4 * c .count) (c .held))
 
--- the column of a member with these accepted lines: first they, then unused places
+-- 01, Reduced load and figure: the column of a member with these accepted lines. How it holds them is not of the paper: first
+-- their numbers, then unused places
 unfoldable pub columnOf : Member → List Line → Column
-columnOf m ls = record { member = m; count = length ls; held = map heldOf ls ++ replicate (256 - length ls) unused }
+columnOf m ls = record { member = m; count = length ls; held = numbersOf ls ++ replicate (1024 - 4 * length ls) 0 }
 
--- the member of a code
+-- no part of the paper has it: the column that a member, a count of lines and its places make, which a call in place takes
+-- instead of the column
+abbrev pub columnFrom : Member → ℕ → List ℕ → Column
+columnFrom m n places = record { member = m; count = n; held = places }
+
+-- 01, Member, line, floor: "A member has a code"; the member of a code
 abbrev pub memberOf : ℕ → Member
 memberOf code = record { code = code }
 
@@ -51,7 +41,8 @@ pub record Outcome : Type 0 where
   pub number : ℕ
   pub column : Column
 
--- what stands in the column's place where opening is refused; it is not reached (`unopened-not-reached`), so no call takes it
+-- no part of the paper has it: what stands in the column's place where opening is refused; it is not reached
+-- (`unopened-not-reached`), so no call takes it
 abbrev pub unopened : Column
 unopened = columnOf (memberOf 0) []
 
@@ -80,31 +71,15 @@ pub record Reached (c : Column) : Type 0 where
   pub opened : openedOf member .number ≡ 0
   pub is : c ≡ after (openedOf member .column) entries
 
--- 01, Member, line, floor and Reduced load and figure: n, X and the figure at floor f, for a member with these accepted lines
-unfoldable pub workingOf : Member → List Line → ℕ → Working
-workingOf m ls f =
-    record {
-      floors = floorsOf (carried f ls);
-      influence = influenceOf m (carried f ls);
-      figure = figureOf m (carried f ls);
-    }
-
--- 01, Numbers by the place of checking: asking at a floor; 7 where no accepted line has that floor
-unfoldable pub askedOf : Member → List Line → ℕ → Said Working
-askedOf m ls f = cond (hasFloor f ls) (gives (workingOf m ls f)) (refused 7)
-
--- 01, Numbers by the place of checking: asking a column at a floor
-abbrev pub asked : Column → ℕ → Said Working
-asked c f = askedOf (c .member) (linesOf c) f
-
 -- 01, Where each language form belongs: the number and the values of each case of an answer
 unfoldable pub verdictNumber : Verdict → ℕ
 verdictNumber Accepted = 0
 verdictNumber (Refused r) = numberOf r
 
+-- 01, Where each language form belongs: so of what opening and entering give
 unfoldable pub outcome : Changed → Outcome
 outcome c = record { number = verdictNumber (c .verdict); column = c .column }
 
-unfoldable pub saidWorking : Asked → Said Working
-saidWorking (asked-variants.Gives w) = gives w
-saidWorking (asked-variants.Refused r) = refused (numberOf r)
+-- 01, Where each language form belongs: so of entering in place, which leaves the column that the member, the count and the places make
+unfoldable pub joinedOutcome : Member → Joined → List ℕ → Outcome
+joinedOutcome m j places = record { number = verdictNumber (j .verdict); column = columnFrom m (j .count) places }

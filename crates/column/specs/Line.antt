@@ -1,49 +1,23 @@
--- Paper 01, "Member, line, floor": the lines carried at a floor, their count n and their influence area X.
--- Nothing here looks at the order of the lines.
+-- Paper 01, "Member, line, floor": a line, and lines as numbers, four a line.
 -- Assumes nothing.
-use mathlib.Core.Bool.{Bool, cond, not}
 use mathlib.Core.List.{List, [], _∷_}
-use Prim.Native.Nat.{ℕ, _+_, _*_}
-use lib.Dec.{leb, eqb}
-use Rattle.reduction.specs.declared.InfluenceArea.{InfluenceArea}
-use Rattle.reduction.specs.Member.{tableFactor}
-use Rattle.reduction.specs.Share.{isFormula}
+use Prim.Native.Nat.{ℕ}
 use Rattle.column.specs.declared.Line.{Line}
-use Rattle.column.specs.declared.Member.{Member}
-use Rattle.column.specs.Lists.{keep, some, total}
 
 -- 01, Member, line, floor: a line's four numbers
 abbrev pub line : ℕ → ℕ → ℕ → ℕ → Line
 line f c l a = record { floor = f; class = c; load = l; area = record { 0 = a } }
 
--- 01, Member, line, floor: a formula line
-unfoldable pub isFormulaLine : Line → Bool
-isFormulaLine l = isFormula (l .load) (l .class)
+-- 01, Member, line, floor: "A line has four decimal numbers"; the entries of a list of numbers, four an entry. 01 says nothing of
+-- one to three numbers left over at the end: they are no entry
+unfoldable pub entriesOf : List ℕ → List Line
+entriesOf (f ∷ (c ∷ (l ∷ (a ∷ ns)))) = line f c l a ∷ entriesOf ns
+entriesOf (f ∷ (c ∷ (l ∷ []))) = []
+entriesOf (f ∷ (c ∷ [])) = []
+entriesOf (f ∷ []) = []
+entriesOf [] = []
 
--- 01, Member, line, floor: the formula lines, and the others
-unfoldable pub formulaLines : List Line → List Line
-formulaLines ls = keep isFormulaLine ls
-
-unfoldable pub otherLines : List Line → List Line
-otherLines ls = keep (λ l. not (isFormulaLine l)) ls
-
--- 01, Member, line, floor: the lines carried at floor f are those with floor at most f
-unfoldable pub carried : ℕ → List Line → List Line
-carried f ls = keep (λ l. leb (l .floor) f) ls
-
--- 01, Numbers by the place of checking: a line has floor f
-unfoldable pub hasFloor : ℕ → List Line → Bool
-hasFloor f ls = some (λ l. eqb (l .floor) f) ls
-
--- 01, Member, line, floor: n, the number of distinct floors; a floor counts at the last line that has it
-unfoldable pub floorsOf : List Line → ℕ
-floorsOf [] = 0
-floorsOf (l ∷ ls) = cond (hasFloor (l .floor) ls) 0 1 + floorsOf ls
-
--- 01, Member, line, floor: the summed tributary area, in dm²
-unfoldable pub areaOf : List Line → ℕ
-areaOf ls = total (λ l. l .area .0) ls
-
--- 01, Member, line, floor: X, K times the summed area of the formula lines carried
-unfoldable pub influenceOf : Member → List Line → InfluenceArea
-influenceOf m ls = record { 0 = tableFactor (m .code) * areaOf (formulaLines ls) }
+-- 01, Member, line, floor: the numbers of some lines, four a line
+unfoldable pub numbersOf : List Line → List ℕ
+numbersOf [] = []
+numbersOf (l ∷ ls) = l .floor ∷ (l .class ∷ (l .load ∷ (l .area .0 ∷ numbersOf ls)))

@@ -1,14 +1,15 @@
--- What the private functions ask of a column, and what they count. No promise cites it.
+-- What the private functions ask of a column. No promise cites it.
 -- Assumes nothing.
 use mathlib.Core.Path.{_≡_}
-use mathlib.Core.Bool.{true, cond}
-use Prim.Native.Nat.{ℕ, _≤_}
-use lib.ListN.{length}
-use Rattle.reduction.specs.Numbers.{between}
+use mathlib.Core.Bool.{true}
+use mathlib.Core.List.{List, [], _∷_, _++_}
+use Prim.Native.Nat.{ℕ, _+_, _*_, _≤_}
+use lib.ListN.{length, take, drop}
+use Rattle.member.specs.Numbers.{between}
 use Rattle.refusal.specs.Lists.{All}
 use Rattle.column.specs.declared.Line.{Line}
 use Rattle.column.specs.declared.Column.{Column}
-use Rattle.column.specs.Line.{isFormulaLine}
+use Rattle.column.specs.Line.{numbersOf}
 use Rattle.column.specs.Column.{linesOf}
 
 -- a line whose numbers are within their limits
@@ -22,9 +23,9 @@ pub record InLimits (l : Line) : Type 0 where
 pub record Sound (c : Column) : Type 0 where
   pub code : between 1 12 (c .member .code) ≡ true
   pub few : c .count ≤ 256
-  pub size : length (c .held) ≡ 256
+  pub size : length (c .held) ≡ 1024
   pub lines : All InLimits (linesOf c)
 
--- the area that a line adds to the formula lines' area
-unfoldable pub formulaArea : Line → ℕ
-formulaArea l = cond (isFormulaLine l) (l .area .0) 0
+-- the places with a line put at one of them
+unfoldable pub withLineAt : List ℕ → ℕ → Line → List ℕ
+withLineAt places i l = take (4 * i) places ++ numbersOf (l ∷ []) ++ drop (4 * i + 4) places

@@ -1,19 +1,19 @@
 // The conditions for entering a line, in the order in which they are checked.
 ghost use mathlib.Core.Path.{_≡_};
-ghost use Rattle.column.specs.declared.Member.{Member};
 ghost use Rattle.column.specs.Accepted.{firstCondition};
 ghost use Rattle.column.specs.Column.{verdictNumber};
 use crate::Line;
+use crate::Member;
 use crate::Verdict;
-use reduction::limits;
+use member::limits;
 use refusal::Refusal;
 
-// The first condition that holds for a line, where so many lines are held and the last one has this
-// floor. None of them looks at the member.
-pub fn verdict_of(held: u64, last: u64, line: Line) -> Verdict
-    ensures { λ r. ⌜ ((m : Member) → verdictNumber r ≡ firstCondition m held last line) ⌝ }
+// The first condition that holds for a line, where a member holds so many lines and the last one has
+// this floor. None of paper 01's looks at the member.
+pub fn verdict_of(member: Member, count: u64, last: u64, line: Line) -> Verdict
+    ensures { λ r. ⌜ verdictNumber r ≡ firstCondition member count last line ⌝ }
 {
-    if 256 <= held {
+    if 256 <= count {
         return Verdict::Refused(Refusal::TooManyLines);
     }
     if !limits::is_between(1, 64, line.floor) {

@@ -7,13 +7,13 @@ use Rattle.effects.specs.declared.Effects.{Effects}
 use Rattle.effects.specs.declared.Newtons.{Newtons}
 use Rattle.effects.specs.declared.LoadEffect.{LoadEffect}
 use Rattle.refusal.specs.Told.{Told, gives, refused}
-use Rattle.effects.specs.Effect.{limit}
+use Rattle.newtons.specs.Effect.{limit}
 use Rattle.effects.specs.Check.{newtonsOf, doublesOf, checkedOf}
 use Rattle.effects.specs.Fit.{Seven}
 use Rattle.combination.specs.declared.Governing.{Governing}
 use Rattle.combination.specs.Governing.{sums, best}
 use Rattle.combination.specs.Combine.{rowOf, governing, RowsGovern, combined, combinedOf, Exact, NothingLost}
-use Rattle.effects.proofs.Values.{value-back}
+use Rattle.newtons.proofs.Values.{value-back}
 use Rattle.effects.proofs.Checks.{checked-seven, doubles-taken}
 use Rattle.combination.proofs.Table.{sums-length, sums-small}
 use Rattle.combination.proofs.Governs.{Order, less-order, greater-order, best-governs, best-small}

@@ -1,6 +1,6 @@
 -- Paper 01's combination cases hold: the doubles are taken, and the search computes. Assumes nothing.
 use Rattle.refusal.specs.Lists.{All, none, more}
-use Rattle.effects.specs.Effect.{limit}
+use Rattle.newtons.specs.Effect.{limit}
 use Rattle.effects.specs.Check.{placeOf, newtonsOf}
 use Rattle.combination.specs.Factors.{combinations, factorIn, factors}
 use Rattle.combination.specs.Governing.{sumOf, sums, better, bestFrom, best}

@@ -3,15 +3,18 @@ use mathlib.Core.Path.{_≡_, refl, sym, subst}
 use mathlib.Core.Bool.{Bool, true, false, cond}
 use mathlib.Core.List.{List, [], _∷_}
 use Prim.Native.Nat.{ℕ, suc, _+_, _-_, _*_, _≤_, _<_}
-use native.Mathlib.Nat.{le-refl, mul-le-mul}
+use native.Mathlib.Nat.{le-refl, lt-of-le-of-lt, mul-le-mul}
 use native.Mathlib.Omega.{arith}
-use lib.Dec.{T, ltb, ltb→lt}
+use lib.Dec.{T, ltb, ltb→lt, lit<}
 use lib.IntN.{ℤ, pos, negsuc, natAbs, subℕ, _+ℤ_, _*ℤ_}
 use lib.ListN.{length, getD, drop, length-drop, drop-of-length-le}
 use lib.Seq.{drop-cons, getD-drop}
-use Rattle.effects.specs.Effect.{limit}
+use mir.Syntax.{w8}
+use mir.Val.{toZ, ofZ}
+use mir.ValLaws.{toZ-ofZ}
+use Rattle.newtons.specs.Effect.{limit}
 use Rattle.effects.specs.Fit.{EachAtMost, Seven}
-use Rattle.effects.proofs.Numbers.{size-neg}
+use Rattle.newtons.proofs.Numbers.{size-neg, mag-le}
 use Rattle.combination.specs.Governing.{sumOf}
 
 -- no product of a factor and an effect is above 16 times the limit, and no sum of seven above seven times that
@@ -20,6 +23,10 @@ mostProduct = 16 * limit
 
 abbrev pub mostSum : ℕ
 mostSum = 7 * mostProduct
+
+-- eight bits keep a factor
+pub factor-kept : {z : ℤ} → natAbs z ≤ 16 → toZ w8 (ofZ w8 z) ≡ z
+factor-kept {z} h = toZ-ofZ w8 z (record { sfits = lt-of-le-of-lt (mag-le z) (lt-of-le-of-lt h (lit< tt)) })
 
 -- ---- the size of a sum and of a product
 

@@ -7,7 +7,7 @@ use lib.Dec.{T}
 use lib.IntN.{ℤ, pos, natAbs}
 use lib.ListN.{length, getD, length-map, List·getD-map}
 use Rattle.effects.specs.Check.{placeOf}
-use Rattle.effects.specs.Effect.{limit}
+use Rattle.newtons.specs.Effect.{limit}
 use Rattle.effects.specs.Fit.{Seven}
 use Rattle.combination.specs.Factors.{combinations, factorIn, factors}
 use Rattle.combination.specs.Governing.{sumOf, sums}

@@ -8,7 +8,7 @@ use Rattle.refusal.specs.Refusal.{numberOf}
 use Rattle.effects.specs.declared.Effects.{Effects}
 use Rattle.effects.specs.declared.LoadEffect.{LoadEffect}
 use Rattle.refusal.specs.Told.{Told, gives, refused}
-use Rattle.effects.specs.Effect.{valueOf, whole}
+use Rattle.newtons.specs.Effect.{valueOf, whole}
 use Rattle.effects.specs.Check.{checkedOf}
 use Rattle.combination.specs.declared.search.Best.{Best}
 use Rattle.combination.specs.declared.GoverningRow.{GoverningRow}
@@ -48,6 +48,7 @@ saidCombined (C.Refused r) = refused (numberOf (r .refusal)) (r .effect)
 pub record Exact (r : GoverningRow) : Type 0 where
   pub is : valueOf (r .double) ≡ whole (r .tenths)
 
+-- 01, Effects and the 25 combinations: "with nothing lost", of both governing sums; a refusal has none
 unfoldable pub NothingLost : Told LoadEffect Governing → Type 0
 NothingLost (gives g) = Exact (g .greatest) × Exact (g .least)
 NothingLost (refused n e) = Unit {0}

@@ -9,6 +9,7 @@ use Rattle.effects.specs.Check.{doublesOf}
 use Rattle.combination.specs.declared.search.Best.{Best}
 use Rattle.combination.specs.Combine.{rowOf, combinedOf}
 
+-- a case: the effects, and the rows with the greatest and the least sum
 pub record Example : Type 0 where
   pub newtons : Newtons
   pub greatest : Best
@@ -18,6 +19,7 @@ pub record Example : Type 0 where
 abbrev newtons : ℤ → ℤ → ℤ → Newtons
 newtons d l w = record { dead = d; live = l; roof = pos 0; snow = pos 0; rain = pos 0; wind = w; quake = pos 0 }
 
+-- 01, Figures to check against, and The sheet: its cases
 unfoldable pub examples : List Example
 examples =
     -- 01, Figures to check against: "with D = 100,000, W = 60,000 and the rest, L too, 0"

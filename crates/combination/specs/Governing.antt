@@ -20,7 +20,7 @@ sumOf (f ∷ fs) (x ∷ xs) = f *ℤ x +ℤ sumOf fs xs
 unfoldable pub sums : List ℤ → List ℤ
 sums xs = map (λ row. sumOf row xs) factors
 
--- a sum beats another where it is greater, or where it is less
+-- 01, Effects and the 25 combinations: "the greatest and the least sum"; a sum beats another where it is greater, or where it is less
 abbrev pub greater : ℤ → ℤ → Bool
 greater a b = ltZ b a
 

@@ -1,11 +1,9 @@
 // The 25 load combinations, and the search for the rows that govern. The effects are within the limit.
 ghost use mathlib.Core.Path.{_≡_};
 ghost use mathlib.Core.Bool.{cond};
-ghost use mathlib.Core.List.{[]};
 ghost use Prim.Native.Nat.{_≤_, _<_, _^_};
 ghost use lib.IntN.{natAbs};
-ghost use lib.ListN.{getD};
-ghost use Rattle.effects.specs.Effect.{limit};
+ghost use Rattle.newtons.specs.Effect.{limit};
 ghost use Rattle.effects.specs.Check.{newtonsOf};
 ghost use Rattle.combination.specs.Factors.{factors};
 ghost use Rattle.combination.specs.Governing.{sumOf};
@@ -16,7 +14,7 @@ use crate::GoverningRow;
 use effects::Newtons;
 
 // The factors of each row in tenths: D, L, Lr, S, R, W, E.
-const FACTORS: [[i64; 7]; 25] = [
+const FACTORS: [[i8; 7]; 25] = [
     [14, 0, 0, 0, 0, 0, 0],
     [12, 16, 5, 0, 0, 0, 0],
     [12, 16, 0, 5, 0, 0, 0],
@@ -51,14 +49,22 @@ pub struct Best {
 }
 
 // The table, read once for all rows.
-fn factors_of() -> [[i64; 7]; 25]
+fn factors_of() -> [[i8; 7]; 25]
     ensures { λ r. ⌜ r ≡ factors ⌝ }
 {
     FACTORS
 }
 
+// A factor, as wide as an effect.
+fn wide(factor: i8) -> i64
+    requires { ⌜ natAbs factor ≤ 16 ⌝ }
+    ensures { λ r. ⌜ r ≡ factor ⌝ }
+{
+    factor as i64
+}
+
 // The sum of a row: from the last effect to the first, as the definition adds.
-fn sum_of(factors: [i64; 7], newtons: [i64; 7]) -> i64
+fn sum_of(factors: [i8; 7], newtons: [i64; 7]) -> i64
     requires { ⌜ Seven 16 factors ⌝ }
     requires { ⌜ Seven limit newtons ⌝ }
     ensures { λ r. ⌜ r ≡ sumOf factors newtons ⌝ }
@@ -67,7 +73,7 @@ fn sum_of(factors: [i64; 7], newtons: [i64; 7]) -> i64
     let mut j = 7usize;
     while j > 0 {
         j -= 1;
-        sum = factors[j] * newtons[j] + sum;
+        sum = wide(factors[j]) * newtons[j] + sum;
     }
     sum
 }

@@ -14,11 +14,11 @@ use Rattle.effects.specs.declared.Effects.{Effects}
 use Rattle.effects.specs.declared.Newtons.{Newtons}
 use Rattle.effects.specs.declared.LoadEffect.{LoadEffect}
 use Rattle.refusal.specs.Told.{Told, gives, refused}
-use Rattle.effects.specs.Effect.{limit, effectOf}
+use Rattle.newtons.specs.Effect.{limit, effectOf}
 use Rattle.effects.specs.Check.{loadEffect, listed, newtonsOf, doublesOf, ifGiven, checkedFrom, checkedOf}
 use Rattle.effects.specs.Fit.{EachAtMost, Sized, Seven}
-use Rattle.effects.proofs.Values.{value-back}
-use Rattle.effects.proofs.Limits.{effect-whole, effect-within}
+use Rattle.newtons.proofs.Values.{value-back}
+use Rattle.newtons.proofs.Limits.{effect-whole, effect-within}
 
 pub listed-length : (e : Effects) → length (listed e) ≡ 7
 unfolding listed

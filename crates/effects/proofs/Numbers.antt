@@ -1,36 +1,15 @@
--- Numbers that 64 bits keep, and seven of them. Assumes nothing.
+-- Seven numbers that 64 bits keep. Assumes nothing.
 use mathlib.Core.Path.{_≡_, refl, _∙_}
 use mathlib.Core.Bool.{Bool, true, _&&_}
 use mathlib.Core.List.{List, [], _∷_}
-use Prim.Native.Nat.{ℕ, zero, suc, zero-le, _^_, _≤_, _<_}
-use native.Mathlib.Nat.{le-refl, lt-of-le-of-lt}
+use Prim.Native.Nat.{ℕ, zero, suc, zero-le, _≤_, _<_}
 use native.Mathlib.Omega.{arith}
 use lib.Dec.{T, leb, eqb, leb→le, le→leb, eqb→eq}
-use lib.IntN.{ℤ, pos, negsuc, negℤ, natAbs}
+use lib.IntN.{ℤ, pos, natAbs}
 use lib.ListN.{length, getD, drop, set, replicate, length-set, drop-of-length-le}
 use lib.Seq.{drop-cons}
-use lib.Signed.{mag}
 use lib.Ieee.Fits.{and-l, and-r}
-use mir.Syntax.{w64}
-use mir.Val.{SFits, toZ, ofZ}
-use mir.ValLaws.{toZ-ofZ}
 use Rattle.effects.specs.Fit.{EachAtMost, Seven}
-
--- ---- the size of a number, and those that 64 bits keep
-
-pub size-neg : (n : ℕ) → natAbs (negℤ (pos n)) ≡ n
-size-neg zero = refl
-size-neg (suc n) = refl
-
-mag-le : (z : ℤ) → mag z ≤ natAbs z
-mag-le (pos n) = le-refl n
-mag-le (negsuc n) = omega arith
-
-pub small-fits : {z : ℤ} {n : ℕ} → natAbs z ≤ n → n < 2 ^ 63 → SFits w64 z
-small-fits {z} {n} h k = record { sfits = lt-of-le-of-lt (mag-le z) (lt-of-le-of-lt h k) }
-
-pub kept : {z : ℤ} {n : ℕ} → natAbs z ≤ n → n < 2 ^ 63 → toZ w64 (ofZ w64 z) ≡ z
-kept {z} h k = toZ-ofZ w64 z (small-fits h k)
 
 -- ---- seven numbers, each at most so large in size
 

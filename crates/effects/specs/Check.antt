@@ -13,7 +13,7 @@ use Rattle.effects.specs.declared.LoadEffect.{LoadEffect}
 use Rattle.effects.specs.declared.Checked.{Checked}
 use Rattle.effects.specs.declared.Checked.the-variants as C
 use Rattle.refusal.specs.Told.{Told, gives, refused}
-use Rattle.effects.specs.Effect.{effectOf}
+use Rattle.newtons.specs.Effect.{effectOf}
 
 -- 01, Numbers by the place of checking: the place of an effect in the list, D to E
 unfoldable pub placeOf : Load → ℕ

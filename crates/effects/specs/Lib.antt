@@ -1,4 +1,3 @@
--- What an effect is, and the check of the seven.
-pub mod Effect
+-- The check of the seven effects, then what private functions ask.
 pub mod Check
 pub mod Fit

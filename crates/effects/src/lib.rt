@@ -2,22 +2,11 @@
 ghost use mathlib.Core.Path.{_≡_};
 ghost use Rattle.refusal.specs.Refusal.{numberOf};
 ghost use Rattle.refusal.specs.Told.{refused};
-ghost use Rattle.effects.specs.Effect.{limit, within, effectOf, saidEffect};
+ghost use Rattle.newtons.specs.Effect.{limit};
 ghost use Rattle.effects.specs.Check.{placeOf, loadEffect, listed, newtonsOf, checkedOf, saidChecked};
 ghost use Rattle.effects.specs.Fit.{Seven};
+use newtons::Effect;
 use refusal::Refusal;
-
-pub mod signed;
-
-// The greatest effect taken, in newtons, either way.
-const LIMIT: u64 = 1_000_000_000_000;
-
-// A double as an effect in newtons; a refused one comes back as it came.
-pub enum Effect {
-    Whole(i64),
-    NotWhole(f64),
-    Beyond(f64),
-}
 
 // The loads, in the order of checking.
 pub enum Load {
@@ -43,6 +32,7 @@ pub struct Effects {
 }
 
 // The same in whole newtons.
+#[repr(C)]
 pub struct Newtons {
     pub dead: i64,
     pub live: i64,
@@ -69,54 +59,6 @@ pub struct RefusedEffect {
 pub enum Checked {
     Whole(Newtons),
     Refused(RefusedEffect),
-}
-
-// Whether an effect of so many newtons is within the limit.
-pub fn is_within(newtons: i64) -> bool
-    ensures { λ r. ⌜ r ≡ within newtons ⌝ }
-{
-    signed::magnitude(newtons) <= LIMIT
-}
-
-// The whole number that a double is, read off its bits: the sign, the exponent and the digits.
-pub fn whole_of(x: f64) -> Effect
-    ensures { λ r. ⌜ saidEffect r ≡ effectOf x ⌝ }
-{
-    if x != x {
-        return Effect::NotWhole(x);
-    }
-    let bits = f64::to_bits(x);
-    let unsigned = bits % 0x8000_0000_0000_0000;
-    if unsigned == 0 {
-        return Effect::Whole(0);
-    }
-    let exponent = unsigned / 0x10_0000_0000_0000;
-    if exponent < 1023 {
-        // Above 0 and below 1 in size.
-        return Effect::NotWhole(x);
-    }
-    if exponent == 2047 {
-        // An infinity.
-        return Effect::NotWhole(x);
-    }
-    if exponent > 1075 {
-        // Whole, and at least 2^53.
-        return Effect::Beyond(x);
-    }
-    // The size is so many units of 2^(exponent - 1075).
-    let units = 0x10_0000_0000_0000 + bits % 0x10_0000_0000_0000;
-    let one = 1u64 << (1075 - exponent);
-    if units % one > 0 {
-        return Effect::NotWhole(x);
-    }
-    let size = units / one;
-    if size > LIMIT {
-        return Effect::Beyond(x);
-    }
-    if bits >= 0x8000_0000_0000_0000 {
-        return Effect::Whole(-(size as i64));
-    }
-    Effect::Whole(size as i64)
 }
 
 // The place of a load's effect in the order of checking, 1 to 7.
@@ -209,7 +151,7 @@ pub fn check(effects: Effects) -> Checked
     while i < 7 {
         let given = listed[i];
         let load = given.load;
-        match whole_of(given.double) {
+        match newtons::whole_of(given.double) {
             Effect::Whole(n) => whole[i] = n,
             Effect::NotWhole(x) => return refused(Refusal::EffectNotWhole, load, x),
             Effect::Beyond(x) => return refused(Refusal::EffectOutOfRange, load, x),

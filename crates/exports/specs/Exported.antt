@@ -1,25 +1,35 @@
--- What the structs of numbers say that are handed to C and Rust, in the terms of the definitions of column, records and combination.
+-- What the structs of numbers say that are handed to C and Rust, in the terms of the definitions of the crates below.
 -- Assumes nothing.
 use mathlib.Core.Bool.{false}
+use mathlib.Core.List.{List}
 use Prim.Native.Nat.{ℕ}
-use lib.IntN.{pos}
+use lib.IntN.{ℤ, pos}
 use lib.Ieee.{Float, fin}
 use Rattle.refusal.specs.Said.{Said, gives, refused}
 use Rattle.refusal.specs.Told as told
-use Rattle.column.specs.declared.Working.{Working}
-use Rattle.column.specs.Column.{Outcome}
+use Rattle.figure.specs.declared.Working.{Working}
+use Rattle.column.specs.declared.Member.{Member}
+use Rattle.column.specs.Column.{Outcome, columnFrom}
 use Rattle.effects.specs.declared.LoadEffect.{LoadEffect}
 use Rattle.combination.specs.declared.GoverningRow.{GoverningRow}
 use Rattle.combination.specs.declared.Governing.{Governing}
-use Rattle.effects.specs.Check.{placeOf}
-use Rattle.exports.specs.declared.BungeroCombined.{BungeroCombined}
-use Rattle.exports.specs.declared.BungeroColumn.{BungeroColumn}
-use Rattle.exports.specs.declared.BungeroFigure.{BungeroFigure}
+use Rattle.effects.specs.declared.Newtons.{Newtons}
+use Rattle.effects.specs.Check.{placeOf, newtonsOf}
+use Rattle.exports.specs.declared.checks.BungeroChecked.{BungeroChecked}
+use Rattle.exports.specs.declared.combinations.BungeroCombined.{BungeroCombined}
+use Rattle.exports.specs.declared.columns.BungeroOpened.{BungeroOpened}
+use Rattle.exports.specs.declared.columns.BungeroEntered.{BungeroEntered}
+use Rattle.exports.specs.declared.columns.BungeroFigure.{BungeroFigure}
 use Rattle.exports.specs.declared.lists.BungeroListed.{BungeroListed}
+use Rattle.exports.specs.declared.reductions.BungeroReduced.{BungeroReduced}
 
 -- 01, Numbers by the place of checking: the number, 0 where no condition holds, and the column
-abbrev pub outcomeOf : BungeroColumn → Outcome
+abbrev pub outcomeOf : BungeroOpened → Outcome
 outcomeOf r = record { number = r .number; column = r .column }
+
+-- 01, Numbers by the place of checking: the same where a line is entered in place: the column of the member with so many lines, in the lent places
+abbrev pub enteredIn : Member → BungeroEntered → List ℕ → Outcome
+enteredIn m r places = record { number = r .number; column = columnFrom m (r .count) places }
 
 -- 01, Numbers by the place of checking: n, X and the figure with the number 0, or the number of the refusal with zeros
 unfoldable pub shownOf : Said Working → BungeroFigure
@@ -31,14 +41,39 @@ unfoldable pub shownListed : told.Told ℕ Working → BungeroListed
 shownListed (told.gives w) = record { number = 0; place = 0; floors = w .floors; influence = w .influence .0; figure = w .figure }
 shownListed (told.refused n place) = record { number = n; place = place; floors = 0; influence = 0; figure = 0 }
 
--- what stands where there is nothing to hand out
-abbrev pub zero : Float
-zero = fin false 0 (pos 0)
+-- 01, Reduced load and figure: R with the number 0, or the number of the refusal with 0
+unfoldable pub shownReduced : Said ℕ → BungeroReduced
+shownReduced (gives r) = record { number = 0; reduced = r }
+shownReduced (refused n) = record { number = n; reduced = 0 }
+
+-- what stands where there is nothing to hand out; no part of the paper
+abbrev pub plusZero : Float
+plusZero = fin false 0 (pos 0)
 
 abbrev pub noRow : GoverningRow
-noRow = record { row = 0; tenths = pos 0; double = zero }
+noRow = record { row = 0; tenths = pos 0; double = plusZero }
 
 -- 01, Effects and the 25 combinations: the governing rows with the number 0, or the number of the refusal, which effect it is, and its double
 unfoldable pub shownCombined : told.Told LoadEffect Governing → BungeroCombined
-shownCombined (told.gives g) = record { number = 0; place = 0; double = zero; governing = g }
+shownCombined (told.gives g) = record { number = 0; place = 0; double = plusZero; governing = g }
 shownCombined (told.refused n e) = record { number = n; place = placeOf (e .load); double = e .double; governing = record { greatest = noRow; least = noRow } }
+
+-- the same for seven effects; no part of the paper
+abbrev pub noNewtons : Newtons
+noNewtons = record { dead = pos 0; live = pos 0; roof = pos 0; snow = pos 0; rain = pos 0; wind = pos 0; quake = pos 0 }
+
+-- 01, Numbers by the place of checking: what the check hands out, its effects "D to E as listed"
+pub record HandedOut : Type 0 where
+  pub number : ℕ
+  pub place : ℕ
+  pub double : Float
+  pub newtons : List ℤ
+
+-- 01, Where each language form belongs: the same, read off the struct that is handed to C and Rust
+unfoldable pub handedOut : BungeroChecked → HandedOut
+handedOut r = record { number = r .number; place = r .place; double = r .double; newtons = newtonsOf (r .newtons) }
+
+-- 01, Effects and the 25 combinations: the whole newtons with the number 0, or the number of the refusal, which effect it is, and its double
+unfoldable pub shownChecked : told.Told LoadEffect (List ℤ) → HandedOut
+shownChecked (told.gives zs) = record { number = 0; place = 0; double = plusZero; newtons = zs }
+shownChecked (told.refused n e) = record { number = n; place = placeOf (e .load); double = e .double; newtons = newtonsOf noNewtons }

@@ -4,10 +4,11 @@ use mathlib.Core.Path.{_≡_, refl, sym, _∙_, ap, subst, subst⁻¹}
 use mathlib.Core.Bool.{Bool, true, false, cond, _&&_}
 use mathlib.Core.List.{List, [], _∷_}
 use Prim.Native.Nat.{ℕ, _+_}
+use native.Mathlib.Omega.{arith}
 use lib.Dec.{eqb}
 use lib.ListN.{length, drop}
 use Rattle.text.specs.Text.{bytesOf, minus}
-use Rattle.effects.specs.Effect.{signed}
+use Rattle.newtons.specs.Effect.{signed}
 use Rattle.column.specs.Line.{line}
 use Rattle.form.specs.declared.number.Number.{Number}
 use Rattle.form.specs.declared.number.Number.the-variants.{Is, Not}
@@ -76,3 +77,32 @@ pub member-first : (l : List ℕ) (due : Due) (f : Form) → formOf due l ≡ f 
 unfolding formOf
 member-first l due f e d P member none =
     subst P (sym (ap (λ (u : Due). formOf u l) d) ∙ e) (of-only (member-only l) P (λ code q. member code) none)
+
+-- a line that says a member is found where one is due, and nowhere else
+module _ (code : ℕ) where
+  effect-not : {f : Form} {A : Type 0} → Only F.Effect f → f ≡ F.Member code → A
+  effect-not {f} {A} h e =
+      of-only h (λ (g : Form). g ≡ F.Member code → A)
+      (λ x q d. let z : _≡_ {A = ℕ} 0 1 = cc in absurd (omega arith))
+      (λ d. let z : _≡_ {A = ℕ} 0 1 = cc in absurd (omega arith)) e
+
+  floor-not : {f : Form} {A : Type 0} → Only F.Floor f → f ≡ F.Member code → A
+  floor-not {f} {A} h e =
+      of-only h (λ (g : Form). g ≡ F.Member code → A)
+      (λ x q d. let z : _≡_ {A = ℕ} 0 1 = cc in absurd (omega arith))
+      (λ d. let z : _≡_ {A = ℕ} 0 1 = cc in absurd (omega arith)) e
+
+  pub member-due : (l : List ℕ) (due : Due) → formOf due l ≡ F.Member code → due ≡ D.Member
+  unfolding formOf
+  member-due l D.Member e = refl
+  member-due l D.FloorOrDead e = go (begins (bytesOf "floor=") l) e
+    where
+      go : (b : Bool) → cond b (floorForm l) (effectForm (bytesOf "dead=") l) ≡ F.Member code → D.FloorOrDead ≡ D.Member
+      go true e = floor-not (floor-only l) e
+      go false e = effect-not (effect-only (bytesOf "dead=") l) e
+  member-due l D.Roof e = effect-not (effect-only (bytesOf "roof=") l) e
+  member-due l D.Snow e = effect-not (effect-only (bytesOf "snow=") l) e
+  member-due l D.Rain e = effect-not (effect-only (bytesOf "rain=") l) e
+  member-due l D.Wind e = effect-not (effect-only (bytesOf "wind=") l) e
+  member-due l D.Quake e = effect-not (effect-only (bytesOf "quake=") l) e
+  member-due l D.Nothing e = let z : _≡_ {A = ℕ} 0 1 = cc in absurd (omega arith)

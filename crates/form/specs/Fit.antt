@@ -1,4 +1,4 @@
--- What keeps a number within 64 bits and its place within the line. No promise of a reachable function cites it.
+-- What keeps a number within 64 bits and its place within the line. No promise cites it.
 -- Assumes nothing.
 use Prim.Native.Nat.{ℕ, _≤_, _<_}
 use Rattle.form.specs.declared.number.Number.{Number}

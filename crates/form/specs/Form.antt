@@ -6,7 +6,7 @@ use Prim.Native.Nat.{ℕ, _+_}
 use lib.Dec.{eqb}
 use lib.ListN.{length, drop}
 use Rattle.text.specs.Text.{bytesOf, minus}
-use Rattle.effects.specs.Effect.{signed}
+use Rattle.newtons.specs.Effect.{signed}
 use Rattle.column.specs.Line.{line}
 use Rattle.form.specs.declared.number.Number.{Number}
 use Rattle.form.specs.declared.number.Number.the-variants as N

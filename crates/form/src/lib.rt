@@ -4,11 +4,11 @@ ghost use Prim.Native.Nat.{_≤_};
 ghost use lib.ListN.{length};
 ghost use Rattle.form.specs.Form.{memberForm, floorForm, effectEnd, effectForm, formOf};
 use column::Line;
+use member::TributaryArea;
 use number::Number;
 use number::begins_at;
 use number::field_at;
 use number::number_at;
-use reduction::TributaryArea;
 
 mod number;
 

@@ -6,62 +6,50 @@ use mathlib.Core.List.{List, [], _∷_, _++_, append-nil}
 use mathlib.Core.Logic.{_⊎_, inl, inr}
 use Prim.Native.Nat.{ℕ, zero, suc, _+_, _≤_}
 use native.Mathlib.Omega.{arith}
+use lib.Dec.{eqb}
 use lib.ListN.{length}
 use lib.Seq.{append-snoc}
+use borrow.Author.Tests.{ne-eqb}
 use Rattle.refusal.specs.Said as said
 use Rattle.refusal.specs.Told.{Told, gives, refused}
 use Rattle.column.specs.declared.Line.{Line}
 use Rattle.column.specs.declared.Member.{Member}
 use Rattle.column.specs.declared.Column.{Column}
-use Rattle.column.specs.declared.Working.{Working}
-use Rattle.column.specs.Line.{hasFloor}
+use Rattle.figure.specs.declared.Working.{Working}
+use Rattle.figure.specs.Carried.{hasFloor}
 use Rattle.column.specs.Accepted.{entryNumber, accepted}
-use Rattle.column.specs.Column.{Outcome, linesOf, columnOf, openedOf, enteredOf, after, workingOf, askedOf}
-use Rattle.column.specs.Demand3.{Claim}
+use Rattle.column.specs.Column.{linesOf, columnOf, openedOf, enteredOf, after}
+use Rattle.figure.specs.Asked.{workingOf, askedOf}
+use Rattle.demand3.specs.Demand3.{Claim}
 use Rattle.column.proofs.Columns.{column-lines}
 use Rattle.column.proofs.Reach.{entered-accepted, opened-column, after-opened}
-use Rattle.column.proofs.Demand3.{demand3}
+use Rattle.demand3.proofs.Demand3.{demand3}
 use Rattle.records.specs.Listed.{atPlace, listedFrom, listedOf, Bounds}
 use Rattle.records.specs.AsEntered.{NoneRefused, none, more, Stops, EveryList, AtOpening, AtFirst, AsEntered, FigureOfAll}
-use Rattle.records.specs.Entering.{State, begunOf, entersLine, steppedOf, enteredAll, answerOf}
-use Rattle.records.proofs.Steps.{not-zero, step-stays, answer-refuses}
 
 -- ---- a number tells whether something is refused
 
-by-number : {P : Type 0} (n : ℕ) → (n ≡ 0 → P) → (1 ≤ n → P) → P
+pub by-number : {P : Type 0} (n : ℕ) → (n ≡ 0 → P) → (1 ≤ n → P) → P
 by-number zero is-zero is-more = is-zero refl
 by-number (suc n) is-zero is-more = is-more (omega arith)
+
+-- a number of a refusal is not 0
+pub not-zero : {n : ℕ} → 1 ≤ n → eqb n 0 ≡ false
+not-zero {n} h = ne-eqb n 0 (λ q. omega arith)
 
 -- an answer that refuses gives no figure
 no-figure : {P : Type 0} {t : Told ℕ Working} {n place : ℕ} {w : Working} → t ≡ refused n place → t ≡ gives w → P
 no-figure p q = let z : _≡_ {A = ℕ} 0 1 = cc in absurd (omega arith)
 
--- ---- what the private functions keep
-
--- these lines are entered and none is refused
-abbrev going : Member → List Line → ℕ → State
-going m ls place = record { place = place; outcome = record { number = 0; column = columnOf m ls } }
-
--- after a refusal nothing changes, so it is the answer
-all-refused : (s : State) (lines : List Line) (f : ℕ) → 1 ≤ s .outcome .number
-    → answerOf (enteredAll s lines) f ≡ refused (s .outcome .number) (s .place)
-unfolding enteredAll
-all-refused s [] f h = answer-refuses s h f
-all-refused s (l ∷ lines) f h = ap (λ (t : State). answerOf (enteredAll t lines) f) (step-stays s h l) ∙ all-refused s lines f h
-
 -- ---- the member is opened, and the lines follow, or it is refused
 
 module _ (m : Member) where
-  begun-opened : openedOf m .number ≡ 0 → begunOf m ≡ going m [] 0
-  unfolding begunOf
-  begun-opened e = λ i. record { place = 0; outcome = record { number = e i; column = opened-column m e i } }
-
   module _ (lines : List Line) (f : ℕ) where
-    listed-opened : openedOf m .number ≡ 0 → listedOf m lines f ≡ listedFrom m [] lines f
+    pub listed-opened : openedOf m .number ≡ 0 → listedOf m lines f ≡ listedFrom m [] lines f
     unfolding listedOf
     listed-opened e = rw e
 
-    listed-unopened : 1 ≤ openedOf m .number → listedOf m lines f ≡ refused (openedOf m .number) 0
+    pub listed-unopened : 1 ≤ openedOf m .number → listedOf m lines f ≡ refused (openedOf m .number) 0
     unfolding listedOf
     listed-unopened h = rw (not-zero h)
 
@@ -80,47 +68,13 @@ module _ (m : Member) (ls : List Line) (l : Line) where
   column-entered e = entered-accepted (columnOf m ls) l (rw (column-lines m ls) e) ∙ rw (column-lines m ls)
 
   module _ (lines : List Line) (f : ℕ) where
-    listed-on : entryNumber m ls l ≡ 0 → listedFrom m ls (l ∷ lines) f ≡ listedFrom m (ls ++ (l ∷ [])) lines f
+    pub listed-on : entryNumber m ls l ≡ 0 → listedFrom m ls (l ∷ lines) f ≡ listedFrom m (ls ++ (l ∷ [])) lines f
     unfolding listedFrom
     listed-on e = rw e
 
-    listed-stop : 1 ≤ entryNumber m ls l → listedFrom m ls (l ∷ lines) f ≡ refused (entryNumber m ls l) (length ls + 1)
+    pub listed-stop : 1 ≤ entryNumber m ls l → listedFrom m ls (l ∷ lines) f ≡ refused (entryNumber m ls l) (length ls + 1)
     unfolding listedFrom
     listed-stop h = rw (not-zero h)
-
-    -- the same of what the private functions keep
-    entered-on : (place : ℕ) → entryNumber m ls l ≡ 0
-        → answerOf (enteredAll (going m ls place) (l ∷ lines)) f ≡ answerOf (enteredAll (going m (ls ++ (l ∷ [])) (length ls + 1)) lines) f
-    unfolding enteredAll steppedOf entersLine columnOf
-    entered-on place e =
-        ap (λ (o : Outcome). answerOf (enteredAll (record { place = length ls + 1; outcome = o }) lines) f) (column-entered e)
-
-    entered-stop : (place : ℕ) → 1 ≤ entryNumber m ls l
-        → answerOf (enteredAll (going m ls place) (l ∷ lines)) f ≡ refused (entryNumber m ls l) (length ls + 1)
-    unfolding enteredAll steppedOf entersLine columnOf
-    entered-stop place h =
-        let s : State = record { place = length ls + 1; outcome = enteredOf (columnOf m ls) l } in
-        all-refused s lines f (rw column-number h) ∙ rw column-number
-
--- ---- all the lines
-
--- entering the lines that are left gives what the definition gives of them
-entered-from : (m : Member) (ls lines : List Line) (place f : ℕ)
-    → answerOf (enteredAll (going m ls place) lines) f ≡ listedFrom m ls lines f
-unfolding enteredAll answerOf listedFrom columnOf
-entered-from m ls [] place f = rw (column-lines m ls)
-entered-from m ls (l ∷ lines) place f =
-    by-number (entryNumber m ls l)
-    (λ e. entered-on m ls l lines f place e ∙ (entered-from m (ls ++ (l ∷ [])) lines (length ls + 1) f ∙ sym (listed-on m ls l lines f e)))
-    (λ h. entered-stop m ls l lines f place h ∙ sym (listed-stop m ls l lines f h))
-
--- what the private functions keep answers as the definition says
-pub entered-listed : (m : Member) (lines : List Line) (f : ℕ) → answerOf (enteredAll (begunOf m) lines) f ≡ listedOf m lines f
-unfolding begunOf
-entered-listed m lines f =
-    by-number (openedOf m .number)
-    (λ e. rw (begun-opened m e, listed-opened m lines f e) (entered-from m [] lines 0 f))
-    (λ h. all-refused (begunOf m) lines f h ∙ sym (listed-unopened m lines f h))
 
 -- ---- lines of which none is refused
 
@@ -189,10 +143,12 @@ every-list c (l ∷ lines) =
 
 -- 01, Member, line, floor: the code's refusal
 pub at-opening : AtOpening
+unfolding AtOpening
 at-opening m lines f h = listed-unopened m lines f h
 
 -- 01, Member, line, floor: the first refused line's
 pub at-first : AtFirst
+unfolding AtFirst
 at-first m lines f opened s =
     let ls = s .before in
     let number : enteredOf (after (openedOf m .column) ls) (s .line) .number ≡ entryNumber m ls (s .line) =
@@ -204,13 +160,14 @@ at-first m lines f opened s =
 
 -- 01, Member, line, floor: where no line is refused, the answer is that of opening the member, entering all and asking
 pub as-entered : AsEntered
-unfolding columnOf
+unfolding AsEntered columnOf
 as-entered m lines f opened h = rw (all-column m lines opened h, column-lines m lines) (all-asked m lines opened h f)
 
 -- ---- an answer that gives a figure
 
 -- 01, Member, line, floor: the member is then opened and no line refused
 pub figure-of-all : FigureOfAll
+unfolding FigureOfAll AtOpening AtFirst
 figure-of-all m lines f w given =
     by-number (openedOf m .number)
     (λ opened. (opened, go opened (every-list (openedOf m .column) lines)))
@@ -231,7 +188,7 @@ figure-floor m ls f w h = go (hasFloor f ls) h
 
 -- 01, Reduced load and figure: the figure is within the bounds, over the lines of the list
 pub listed-bounds : (m : Member) (lines : List Line) (f : ℕ) → Bounds m lines f (listedOf m lines f)
-unfolding Bounds Claim atPlace
+unfolding Bounds Claim atPlace AsEntered FigureOfAll
 listed-bounds m lines f w h =
     let all = figure-of-all m lines f w h in
     let same = all-accepted m lines (all .0) (all .1) in

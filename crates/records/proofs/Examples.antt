@@ -3,16 +3,18 @@
 use mathlib.Core.Path.{refl}
 use Rattle.refusal.specs.Lists.{All, none, more}
 use Rattle.reduction.specs.Numbers.{leastFrom}
-use Rattle.reduction.specs.Member.{table4·2, tableFactor}
-use Rattle.reduction.specs.Share.{isFormula, oneFloor, rootAtLeast, rootAtMost, leastTwentieths, formulaShare, otherTwentieths, shareOf}
+use Rattle.member.specs.Member.{table4·2, tableFactor}
+use Rattle.member.specs.Line.{isFormula}
+use Rattle.reduction.specs.Share.{oneFloor, rootAtLeast, rootAtMost, leastTwentieths, formulaShare, otherTwentieths, shareOf}
 use Rattle.reduction.specs.Reduced.{reaches, reduced}
-use Rattle.column.specs.Lists.{keep, some, total}
-use Rattle.column.specs.Line.{isFormulaLine, formulaLines, carried, hasFloor, floorsOf, areaOf, influenceOf}
-use Rattle.column.specs.Figure.{lineFigure, figureOf}
+use Rattle.figure.specs.Lists.{keep, some, total}
+use Rattle.figure.specs.Carried.{isFormulaLine, formulaLines, carried, hasFloor, floorsOf, areaOf, influenceOf}
+use Rattle.figure.specs.Figure.{lineFigure, figureOf}
 use Rattle.column.specs.Accepted.{lastFloor, firstCondition, entryNumber}
-use Rattle.column.specs.Column.{openedOf, workingOf, askedOf}
-use Rattle.column.specs.Entries.{entriesOf}
-use Rattle.column.specs.Examples.{heavyAbove, sampleSheet}
+use Rattle.column.specs.Column.{openedOf}
+use Rattle.figure.specs.Asked.{workingOf, askedOf}
+use Rattle.column.specs.Line.{entriesOf}
+use Rattle.demand3.specs.Examples.{heavyAbove, sampleSheet}
 use Rattle.records.specs.Listed.{atPlace, listedFrom, listedOf}
 use Rattle.records.specs.Examples.{mistyped, examples, Says}
 

@@ -4,10 +4,10 @@ use mathlib.Core.Path.{_≡_}
 use mathlib.Core.List.{List, [], _∷_}
 use Prim.Native.Nat.{ℕ}
 use Rattle.refusal.specs.Told.{Told, gives, refused}
-use Rattle.column.specs.declared.Working.{Working}
+use Rattle.figure.specs.declared.Working.{Working}
 use Rattle.column.specs.Column.{memberOf}
-use Rattle.column.specs.Entries.{entriesOf}
-use Rattle.column.specs.Examples.{heavyAbove, sampleSheet}
+use Rattle.column.specs.Line.{entriesOf}
+use Rattle.demand3.specs.Examples.{heavyAbove, sampleSheet}
 use Rattle.records.specs.Listed.{listedOf}
 
 -- a member's code, its lines, four numbers a line, a floor, and the answer

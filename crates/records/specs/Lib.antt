@@ -1,5 +1,6 @@
--- The list call, and what its line by line entering keeps.
+-- The list call, and what its two passes keep.
 pub mod Listed
 pub mod AsEntered
 pub mod Examples
-pub mod Entering
+pub mod Checking
+pub mod Summing

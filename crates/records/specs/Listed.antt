@@ -11,11 +11,12 @@ use Rattle.refusal.specs.Said as said
 use Rattle.refusal.specs.Told.{Told, gives, refused}
 use Rattle.column.specs.declared.Line.{Line}
 use Rattle.column.specs.declared.Member.{Member}
-use Rattle.column.specs.declared.Working.{Working}
-use Rattle.column.specs.Line.{carried}
+use Rattle.figure.specs.declared.Working.{Working}
+use Rattle.figure.specs.Carried.{carried}
 use Rattle.column.specs.Accepted.{entryNumber}
-use Rattle.column.specs.Column.{openedOf, askedOf}
-use Rattle.column.specs.Demand3.{Bounded}
+use Rattle.column.specs.Column.{openedOf}
+use Rattle.figure.specs.Asked.{askedOf}
+use Rattle.demand3.specs.Demand3.{Bounded}
 use Rattle.records.specs.declared.Listed.{Listed}
 use Rattle.records.specs.declared.Listed.the-variants.{Gives, Refused}
 

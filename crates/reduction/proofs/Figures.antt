@@ -11,9 +11,10 @@ use Rattle.reduction.specs.declared.InfluenceArea.{InfluenceArea}
 use Rattle.reduction.specs.declared.share.Share.the-variants.{Root}
 use Rattle.reduction.specs.Numbers.{leastFrom}
 use Rattle.refusal.specs.Lists.{All, none, more}
-use Rattle.reduction.specs.Share.{isFormula, oneFloor, rootAtLeast, rootAtMost, leastTwentieths, formulaShare, otherTwentieths, shareOf}
+use Rattle.member.specs.Line.{isFormula}
+use Rattle.reduction.specs.Share.{dm², oneFloor, rootAtLeast, rootAtMost, leastTwentieths, formulaShare, otherTwentieths, shareOf}
 use Rattle.reduction.specs.Reduced.{reaches, reduced, reducedOf}
-use Rattle.reduction.specs.Figures.{dm², at, any, uncapped, Row, row, figures, Says}
+use Rattle.reduction.specs.Figures.{at, any, uncapped, Row, row, figures, Says}
 
 -- an answer gives this number
 is : ℕ → Said ℕ → Bool

@@ -6,12 +6,13 @@ use Prim.Native.Nat.{ℕ, _*_, _-_, _≤_, _<_}
 use native.Mathlib.Nat.{mul-le-mul-right}
 use native.Mathlib.Omega.{arith}
 use lib.Dec.{eqb}
-use borrow.Author.Tests.{leb-true, leb-false, le-leb}
+use borrow.Author.Tests.{leb-true, leb-false, le-leb, eqb-true}
 use Rattle.reduction.specs.declared.InfluenceArea.{InfluenceArea}
 use Rattle.reduction.specs.declared.share.Share.{Share}
 use Rattle.reduction.specs.declared.share.Share.the-variants.{Twentieths, Root}
 use Rattle.reduction.specs.Numbers.{sq}
-use Rattle.reduction.specs.Share.{isFormula, rootAtLeast, rootAtMost, leastTwentieths, formulaShare, shareOf, AtMostOne}
+use Rattle.member.specs.Line.{isFormula}
+use Rattle.reduction.specs.Share.{rootAtLeast, rootAtMost, leastTwentieths, formulaShare, shareOf, AtMostOne}
 use Rattle.reduction.specs.Reduced.{reaches, reduced}
 use Rattle.reduction.specs.Fit.{Bounds, Fit}
 use Rattle.reduction.proofs.Squares.{sq-le}
@@ -29,7 +30,12 @@ root-below n x e =
     let three : 3 ≤ leastTwentieths n - 5 = omega (arith, least-within n) in
     omega (arith, mul-le-mul-right (x .0) (sq-le three), leb-false (sq 914) (sq (leastTwentieths n - 5) * x .0) e)
 
-formula-load : (load class : ℕ) → isFormula load class ≡ true → load ≤ 5000
+-- the class and the load of a formula line
+pub formula-class : (load class : ℕ) → isFormula load class ≡ true → class ≡ 1
+unfolding isFormula
+formula-class load class e = eqb-true class 1 (and-eq-true-iff (eqb class 1) _ .0 e .0)
+
+pub formula-load : (load class : ℕ) → isFormula load class ≡ true → load ≤ 5000
 unfolding isFormula
 formula-load load class e = leb-true load 5000 (and-eq-true-iff (eqb class 1) _ .0 e .1)
 

@@ -10,7 +10,8 @@ use borrow.Author.Tests.{le-leb, lt-leb}
 use Rattle.reduction.specs.declared.InfluenceArea.{InfluenceArea}
 use Rattle.reduction.specs.declared.share.Share.{Share}
 use Rattle.reduction.specs.declared.share.Share.the-variants.{Twentieths, Root}
-use Rattle.reduction.specs.Share.{oneFloor, isFormula, rootAtLeast, rootAtMost, leastTwentieths, formulaShare, otherTwentieths, shareOf, AtMostOne}
+use Rattle.reduction.specs.Share.{oneFloor, rootAtLeast, rootAtMost, leastTwentieths, formulaShare, otherTwentieths, shareOf, AtMostOne}
+use Rattle.member.specs.Line.{isFormula}
 use Rattle.reduction.proofs.Root.{not-at-least, cap-last}
 
 -- The share of formula lines: capped at 1; past the cap, where the least share is k/20, that or the root.

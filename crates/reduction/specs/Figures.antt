@@ -6,11 +6,8 @@ use Prim.Native.Nat.{ℕ}
 use Rattle.refusal.specs.Said.{gives}
 use Rattle.reduction.specs.declared.InfluenceArea.{InfluenceArea}
 use Rattle.reduction.specs.declared.share.Share.the-variants.{Root}
+use Rattle.reduction.specs.Share.{dm²}
 use Rattle.reduction.specs.Reduced.{reduced, reducedOf}
-
--- an influence area of so many dm²
-abbrev pub dm² : ℕ → InfluenceArea
-dm² x = record { 0 = x }
 
 -- the column X: a number, every number, or a number at which the formula stands alone, without its cap and its least share
 pub data Influence : Type 0 where

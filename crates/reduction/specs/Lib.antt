@@ -1,8 +1,7 @@
--- The definitions of the reduction; paper 01 in its order, then what private functions ask.
+-- The definitions of the reduction; paper 01 in its order, then where the search begins and what private functions ask.
 pub mod Numbers
-pub mod Member
 pub mod Share
 pub mod Reduced
-pub mod Estimate
 pub mod Figures
+pub mod Estimate
 pub mod Fit

@@ -1,12 +1,7 @@
--- Limits, squares, and the least number that passes a test.
+-- Squares, and the least number that passes a test.
 -- Assumes nothing.
-use mathlib.Core.Bool.{Bool, true, false, _&&_}
+use mathlib.Core.Bool.{Bool, true, false}
 use Prim.Native.Nat.{ℕ, zero, suc, _*_}
-use lib.Dec.{leb}
-
--- n is from low to high
-abbrev pub between : ℕ → ℕ → ℕ → Bool
-between low high n = leb low n && leb n high
 
 -- a square
 abbrev pub sq : ℕ → ℕ

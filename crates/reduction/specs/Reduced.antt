@@ -8,7 +8,8 @@ use Rattle.refusal.specs.Said.{Said, gives, refused}
 use Rattle.reduction.specs.declared.InfluenceArea.{InfluenceArea}
 use Rattle.reduction.specs.declared.share.Share.{Share}
 use Rattle.reduction.specs.declared.share.Share.the-variants.{Twentieths, Root}
-use Rattle.reduction.specs.Numbers.{between, sq, leastFrom}
+use Rattle.member.specs.Numbers.{between}
+use Rattle.reduction.specs.Numbers.{sq, leastFrom}
 use Rattle.reduction.specs.Share.{shareOf}
 
 -- 01, Reduced load and figure: R is not below share × Lo; with the root, 4R ≥ Lo and 25 × X × (4R − Lo)² ≥ (914 × Lo)²
@@ -19,6 +20,11 @@ reaches (Root x) load r = leb load (4 * r) && leb (sq (914 * load)) (25 * x .0 *
 -- 01, Reduced load and figure: R, the least whole number not below share × Lo. No share at 1 dm² or more passes 46
 unfoldable pub reduced : Share → ℕ → ℕ
 reduced s load = leastFrom (reaches s load) 0 (46 * load)
+
+-- 01, Reduced load and figure: R where the share is so many twentieths, "rounded up". The papers have no more than 20 of them,
+-- and loads of 50,000 or less; elsewhere they leave it free, and it is 0
+unfoldable pub roundedUp : ℕ → ℕ → ℕ
+roundedUp k load = cond (leb k 20 && leb load 50000) (reduced (Twentieths k) load) 0
 
 -- 01, Reduced load and figure: r is the least whole number not below share × Lo
 pub record Least (s : Share) (load r : ℕ) : Type 0 where

@@ -1,17 +1,18 @@
 -- Paper 01, "Reduced load and figure": the share of a line. A share is so many twentieths, or 1/4 + 45.7/√X.
 -- Assumes nothing.
 use mathlib.Core.Path.{_≡_}
-use mathlib.Core.Bool.{Bool, true, cond, _&&_, _||_}
+use mathlib.Core.Bool.{Bool, true, cond, _||_}
 use Prim.Native.Nat.{ℕ, _*_, _-_, _≤_}
 use lib.Dec.{leb, eqb}
 use Rattle.reduction.specs.declared.InfluenceArea.{InfluenceArea}
 use Rattle.reduction.specs.declared.share.Share.{Share}
 use Rattle.reduction.specs.declared.share.Share.the-variants.{Twentieths, Root}
 use Rattle.reduction.specs.Numbers.{sq}
+use Rattle.member.specs.Line.{isFormula}
 
--- 01, Member, line, floor: a formula line has class 1 and Lo at most 5,000
-unfoldable pub isFormula : ℕ → ℕ → Bool
-isFormula load class = eqb class 1 && leb load 5000
+-- 01, Member, line, floor: an influence area X, "in dm²"
+abbrev pub dm² : ℕ → InfluenceArea
+dm² x = record { 0 = x }
 
 -- 01, Reduced load and figure: "where n is 1". No line is carried where n is 0, which is taken as 1, the higher share
 unfoldable pub oneFloor : ℕ → Bool
@@ -36,7 +37,17 @@ formulaShare n x =
     cond (rootAtLeast 20 x) (Twentieths 20)
     (cond (rootAtMost (leastTwentieths n) x) (Twentieths (leastTwentieths n)) (Root x))
 
--- 01, Reduced load and figure: class 2, and class 1 above 5,000, have 1 where n is 1, else 4/5; class 3 has 1
+-- 01, Reduced load and figure: the twentieths of a share that has no root; 0 where it is the root
+unfoldable pub clampedShare : Share → ℕ
+clampedShare (Twentieths k) = k
+clampedShare (Root x) = 0
+
+-- 01, Reduced load and figure: where "the formula lines' share is clamped", to 1, 1/2 or 2/5: its twentieths; else 0
+unfoldable pub clampedOf : ℕ → InfluenceArea → ℕ
+clampedOf n x = clampedShare (formulaShare n x)
+
+-- 01, Reduced load and figure: class 2, and class 1 above 5,000, have 1 where n is 1, else 4/5; class 3 has 1. A number that is
+-- no class, which the papers leave free, has the share of class 2
 unfoldable pub otherTwentieths : ℕ → ℕ → ℕ
 otherTwentieths class n = cond (eqb class 3 || oneFloor n) 20 16
 

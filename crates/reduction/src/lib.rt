@@ -1,20 +1,18 @@
-// CIRSOC 101, 4.7: the factor of a member, the share of a live load, and the reduced load.
+// CIRSOC 101, 4.7: the share of a live load, and the reduced load.
 ghost use mathlib.Core.Path.{_≡_};
+ghost use mathlib.Core.Bool.{true};
+ghost use Rattle.member.specs.Line.{isFormula};
 ghost use Rattle.refusal.specs.Said.{said};
-ghost use Rattle.reduction.specs.Member.{factorOf};
-ghost use Rattle.reduction.specs.Share.{isFormula};
-ghost use Rattle.reduction.specs.Reduced.{reducedOf};
+ghost use Rattle.reduction.specs.Share.{otherTwentieths, clampedOf};
+ghost use Rattle.reduction.specs.Reduced.{reducedOf, roundedUp};
 ghost use Rattle.reduction.specs.Estimate.{estimateOf};
+use member::limits;
 use refusal::Answer;
 use refusal::Refusal;
+use share::Share;
 
-pub mod limits;
 mod rounding;
 mod share;
-
-// The floor area whose load a member carries, in dm².
-#[repr(C)]
-pub struct TributaryArea(pub u64);
 
 // The area that the reduction goes by: K times the summed tributary area of the formula lines
 // carried, in dm².
@@ -24,28 +22,43 @@ pub struct InfluenceArea(pub u64);
 // every line there, and no reduced load depends on it.
 pub struct RootEstimate(pub u64);
 
-// Table 4.2: the factors of the codes 1 to 12, in order.
-const FACTORS: [u64; 12] = [4, 4, 3, 2, 2, 2, 1, 1, 1, 1, 1, 1];
-
-// The factor K of a member's code; refused where there is no such code.
-pub fn factor(code: u64) -> Answer
-    ensures { λ r. ⌜ said r ≡ factorOf code ⌝ }
+// The share of the formula lines at n floors and the influence area x, in twentieths, where it is
+// clamped; 0 where it is the root.
+pub fn clamped_twentieths(floors: u64, x: InfluenceArea) -> u64
+    ensures { λ r. ⌜ r ≡ clampedOf floors x ⌝ }
 {
-    if !limits::is_between(1, 12, code) {
-        return Answer::Refused(Refusal::UnknownCode);
+    match share::formula_share(floors, x) {
+        Share::Twentieths(k) => k,
+        Share::Root(_) => 0,
     }
-    let row = (code - 1) as usize;
-    Answer::Gives(FACTORS[row])
 }
 
-// Whether a line's load is reduced by the formula.
-pub fn is_formula(load: u64, class: u64) -> bool
-    ensures { λ b. ⌜ b ≡ isFormula load class ⌝ }
+// The share of a line that the formula is not for, in twentieths. The papers leave a number that is
+// no class free: it has the share of class 2.
+pub fn other_twentieths(class: u64, floors: u64) -> u64
+    ensures { λ r. ⌜ r ≡ otherTwentieths class floors ⌝ }
 {
-    if class == 1 {
-        return load <= 5000;
+    if class == 3 {
+        return 20;
     }
-    false
+    if floors <= 1 {
+        return 20;
+    }
+    16
+}
+
+// So many twentieths of a load, rounded up. The papers leave more than 20 of them, and a load above
+// 50,000, free: it is then 0.
+pub fn rounded_up(twentieths: u64, load: u64) -> u64
+    ensures { λ r. ⌜ r ≡ roundedUp twentieths load ⌝ }
+{
+    if 20 < twentieths {
+        return 0;
+    }
+    if 50000 < load {
+        return 0;
+    }
+    rounding::twentieths_of(twentieths, load)
 }
 
 // Where the search for reduced loads begins, for all lines at n floors and the influence area x.
@@ -53,6 +66,21 @@ pub fn root_estimate(floors: u64, x: InfluenceArea) -> RootEstimate
     ensures { λ r. ⌜ r ≡ estimateOf floors x ⌝ }
 {
     RootEstimate(rounding::scale_of(share::formula_share(floors, x)))
+}
+
+// The reduced load R of a line that the formula is not for, or of one without a load; refused where
+// the class or the load is outside its limits.
+fn other_load(load: u64, class: u64, floors: u64, x: InfluenceArea) -> Answer
+    requires { ⌜ (isFormula load class ≡ true → load ≡ 0) ⌝ }
+    ensures { λ r. ⌜ said r ≡ reducedOf load class floors x ⌝ }
+{
+    if !limits::is_between(1, 3, class) {
+        return Answer::Refused(Refusal::UnknownClass);
+    }
+    if !limits::is_between(1, 50000, load) {
+        return Answer::Refused(Refusal::LoadOutOfRange);
+    }
+    Answer::Gives(rounding::twentieths_of(other_twentieths(class, floors), load))
 }
 
 // The reduced load R of a line, at n floors and the influence area x; refused where the class or
@@ -66,13 +94,13 @@ pub fn reduced_load_from(
 ) -> Answer
     ensures { λ r. ⌜ said r ≡ reducedOf load class floors x ⌝ }
 {
-    if !limits::is_between(1, 3, class) {
-        return Answer::Refused(Refusal::UnknownClass);
+    if !member::is_formula(load, class) {
+        return other_load(load, class, floors, x);
     }
-    if !limits::is_between(1, 50000, load) {
-        return Answer::Refused(Refusal::LoadOutOfRange);
+    if load == 0 {
+        return other_load(load, class, floors, x);
     }
-    let share = share::share_of(load, class, floors, x);
+    let share = share::formula_share(floors, x);
     let scale = rounding::scale_from(estimate);
     Answer::Gives(rounding::rounded(share, load, scale))
 }
@@ -82,5 +110,9 @@ pub fn reduced_load_from(
 pub fn reduced_load(load: u64, class: u64, floors: u64, x: InfluenceArea) -> Answer
     ensures { λ r. ⌜ said r ≡ reducedOf load class floors x ⌝ }
 {
+    // only a formula line has a root to estimate
+    if !member::is_formula(load, class) {
+        return reduced_load_from(RootEstimate(0), load, class, floors, x);
+    }
     reduced_load_from(root_estimate(floors, x), load, class, floors, x)
 }

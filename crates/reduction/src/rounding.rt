@@ -1,30 +1,33 @@
 // The reduced load: a share of a load, rounded up once, with every comparison on whole numbers.
 ghost use mathlib.Core.Path.{_≡_};
-ghost use Prim.Native.Nat.{_*_, _/_, _^_, _≤_};
-ghost use Rattle.reduction.specs.Numbers.{sq};
+ghost use Prim.Native.Nat.{_*_, _-_, _^_, max, _≤_};
+ghost use Rattle.reduction.specs.declared.share.Share.the-variants.{Twentieths, Root};
 ghost use Rattle.reduction.specs.Reduced.{reaches, reduced};
-ghost use Rattle.reduction.specs.Estimate.{newtons, estimate};
+ghost use Rattle.reduction.specs.Estimate.{newton, highestChord, estimate};
 ghost use Rattle.reduction.specs.Fit.{Fit};
 use crate::InfluenceArea;
 use crate::RootEstimate;
 use crate::share::Share;
 
-// Whether r is not below share × load.
-fn reached(share: Share, load: u64, r: u64) -> bool
-    requires { ⌜ Fit share load × (r ≤ load) ⌝ }
-    ensures { λ b. ⌜ b ≡ reaches share load r ⌝ }
+// So many twentieths of a load, rounded up.
+pub fn twentieths_of(k: u64, load: u64) -> u64
+    requires { ⌜ (k ≤ 20) × (load ≤ 50000) ⌝ }
+    ensures { λ r. ⌜ r ≡ reduced (Twentieths k) load ⌝ }
 {
-    match share {
-        Share::Twentieths(k) => k * load <= 20 * r,
-        Share::Root(x) => {
-            if 4 * r < load {
-                return false;
-            }
-            let above = 4 * r - load;
-            let root_part = 914 * load;
-            root_part * root_part <= 25 * x.0 * (above * above)
-        }
+    (k * load + 19) / 20
+}
+
+// Whether r is not below the root's share of a load.
+fn reached(x: InfluenceArea, load: u64, r: u64) -> bool
+    requires { ⌜ Fit (Root x) load × (r ≤ load) ⌝ }
+    ensures { λ b. ⌜ b ≡ reaches (Root x) load r ⌝ }
+{
+    if 4 * r < load {
+        return false;
     }
+    let above = 4 * r - load;
+    let root_part = 914 * load;
+    root_part * root_part <= 25 * x.0 * (above * above)
 }
 
 // The unit of a scale, 2²⁰.
@@ -36,16 +39,40 @@ const FOUR_UNITS: u64 = 4194304;
 // (914 × 2²⁰)², the square of a scale times 25 X.
 const ROOT_SQUARE: u64 = 918527615797559296;
 
-// About 914 / (5 √X) units, by four of Newton's steps from a middle value.
+// A chord at an influence area: it falls by so much a dm², to 0 and no further.
+fn chord(height: u64, fall: u64, x: InfluenceArea) -> u64
+    requires { ⌜ (fall ≤ 279) × (x .0 ≤ 92821) ⌝ }
+    ensures { λ r. ⌜ r ≡ height - fall * x .0 ⌝ }
+{
+    let fallen = fall * x.0;
+    if fallen <= height { height - fallen } else { 0 }
+}
+
+// The greater of two numbers.
+fn greater(a: u64, b: u64) -> u64
+    ensures { λ r. ⌜ r ≡ max a b ⌝ }
+{
+    if a < b { b } else { a }
+}
+
+// About 914 / (5 √X) units, to 2 %: the highest of six chords of the curve, which takes no branch.
+fn highest_chord(x: InfluenceArea) -> u64
+    requires { ⌜ (3713 ≤ x .0) × (x .0 ≤ 92821) ⌝ }
+    ensures { λ r. ⌜ (r ≡ highestChord (x .0)) × (1 ≤ r) × (r ≤ 2 ^ 22) ⌝ }
+{
+    let low = greater(chord(4141000, 279, x), chord(3170000, 125, x));
+    let middle = greater(chord(2425000, 56, x), chord(1854000, 25, x));
+    let high = greater(chord(1410000, 11, x), chord(1084000, 5, x));
+    greater(greater(low, middle), high)
+}
+
+// About 914 / (5 √X) units, to 2 in 10,000: one of Newton's steps from a chord, with one division.
 fn root_scale(x: InfluenceArea) -> u64
     requires { ⌜ (3713 ≤ x .0) × (x .0 ≤ 92821) ⌝ }
-    ensures { λ r. ⌜ r ≡ newtons (sq (914 * 2 ^ 20) / (25 * x .0)) ⌝ }
+    ensures { λ r. ⌜ r ≡ newton (x .0) (highestChord (x .0)) ⌝ }
 {
-    let square = ROOT_SQUARE / (25 * x.0);
-    let a = (1400000 + square / 1400000) / 2;
-    let b = (a + square / a) / 2;
-    let c = (b + square / b) / 2;
-    (c + square / c) / 2
+    let near = highest_chord(x);
+    (near + ROOT_SQUARE / (25 * x.0 * near)) / 2
 }
 
 // The scale of a share, 0 where it has no root. It is the same for all lines with one share.
@@ -73,39 +100,36 @@ pub fn scale_from(estimate: RootEstimate) -> u64
     }
 }
 
-// A guess at the reduced load: the share times the load, rounded up, with the root as the scale has
-// it. Nothing that is proved hangs on it.
-fn guess(share: Share, load: u64, scale: u64) -> u64
-    requires { ⌜ Fit share load × (scale ≤ 2 ^ 48) ⌝ }
+// A guess at the reduced load by the root: the share times the load, rounded up, with the root as
+// the scale has it. Nothing that is proved hangs on it.
+fn guess(load: u64, scale: u64) -> u64
+    requires { ⌜ (load ≤ 5000) × (scale ≤ 2 ^ 48) ⌝ }
     ensures { λ r. ⌜ r ≤ load ⌝ }
 {
-    let near = match share {
-        Share::Twentieths(k) => (k * load + 19) / 20,
-        Share::Root(_) => (load * UNIT + load * scale) / FOUR_UNITS + 1,
-    };
+    let near = (load * UNIT + load * scale) / FOUR_UNITS + 1;
     if near <= load { near } else { load }
 }
 
 // The first number from `from` on that reaches.
-fn raised(share: Share, load: u64, from: u64) -> u64
-    requires { ⌜ Fit share load × (from ≤ load) ⌝ }
-    ensures { λ r. ⌜ (reduced share load ≤ r) × (r ≤ load) ⌝ }
+fn raised(x: InfluenceArea, load: u64, from: u64) -> u64
+    requires { ⌜ Fit (Root x) load × (from ≤ load) ⌝ }
+    ensures { λ r. ⌜ (reduced (Root x) load ≤ r) × (r ≤ load) ⌝ }
 {
     let mut r = from;
-    while !reached(share, load, r) {
+    while !reached(x, load, r) {
         r += 1;
     }
     r
 }
 
 // The reduced load, by going down from a number that reaches while the one below reaches too.
-fn lowered(share: Share, load: u64, from: u64) -> u64
-    requires { ⌜ Fit share load × (reduced share load ≤ from) × (from ≤ load) ⌝ }
-    ensures { λ r. ⌜ r ≡ reduced share load ⌝ }
+fn lowered(x: InfluenceArea, load: u64, from: u64) -> u64
+    requires { ⌜ Fit (Root x) load × (reduced (Root x) load ≤ from) × (from ≤ load) ⌝ }
+    ensures { λ r. ⌜ r ≡ reduced (Root x) load ⌝ }
 {
     let mut r = from;
     while 0 < r {
-        if !reached(share, load, r - 1) {
+        if !reached(x, load, r - 1) {
             return r;
         }
         r -= 1;
@@ -113,10 +137,22 @@ fn lowered(share: Share, load: u64, from: u64) -> u64
     r
 }
 
-// The reduced load. The exact tests alone decide it; the scale only says where they begin.
+// The reduced load by the root. The exact tests alone decide it; the scale only says where they
+// begin.
+fn root_rounded(x: InfluenceArea, load: u64, scale: u64) -> u64
+    requires { ⌜ Fit (Root x) load × (scale ≤ 2 ^ 48) ⌝ }
+    ensures { λ r. ⌜ r ≡ reduced (Root x) load ⌝ }
+{
+    lowered(x, load, raised(x, load, guess(load, scale)))
+}
+
+// The reduced load. Only the root needs a search, which the scale begins.
 pub fn rounded(share: Share, load: u64, scale: u64) -> u64
     requires { ⌜ Fit share load × (scale ≤ 2 ^ 48) ⌝ }
     ensures { λ r. ⌜ r ≡ reduced share load ⌝ }
 {
-    lowered(share, load, raised(share, load, guess(share, load, scale)))
+    match share {
+        Share::Twentieths(k) => twentieths_of(k, load),
+        Share::Root(x) => root_rounded(x, load, scale),
+    }
 }

@@ -1,6 +1,6 @@
 // The share of a live load that is left after the reduction.
 ghost use mathlib.Core.Path.{_≡_};
-ghost use Rattle.reduction.specs.Share.{formulaShare, shareOf};
+ghost use Rattle.reduction.specs.Share.{formulaShare};
 use crate::InfluenceArea;
 
 // What a load is multiplied by: so many twentieths, or 1/4 + 45.7/√X.
@@ -20,34 +20,18 @@ const TWO_FIFTHS_FIRST: u64 = 92822;
 pub fn formula_share(floors: u64, x: InfluenceArea) -> Share
     ensures { λ r. ⌜ r ≡ formulaShare floors x ⌝ }
 {
-    let area = x.0;
-    if area <= CAP_LAST {
+    let influence = x.0;
+    if influence <= CAP_LAST {
         return Share::Twentieths(20);
     }
     if floors <= 1 {
-        if HALF_FIRST <= area {
+        if HALF_FIRST <= influence {
             return Share::Twentieths(10);
         }
         return Share::Root(x);
     }
-    if TWO_FIFTHS_FIRST <= area {
+    if TWO_FIFTHS_FIRST <= influence {
         return Share::Twentieths(8);
     }
     Share::Root(x)
-}
-
-// The share of a line.
-pub fn share_of(load: u64, class: u64, floors: u64, x: InfluenceArea) -> Share
-    ensures { λ r. ⌜ r ≡ shareOf load class floors x ⌝ }
-{
-    if crate::is_formula(load, class) {
-        return formula_share(floors, x);
-    }
-    if class == 3 {
-        return Share::Twentieths(20);
-    }
-    if floors <= 1 {
-        return Share::Twentieths(20);
-    }
-    Share::Twentieths(16)
 }

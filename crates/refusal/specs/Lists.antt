@@ -1,4 +1,4 @@
--- What holds of each element of a list.
+-- What holds of each element of a list. No promise cites it.
 -- Assumes nothing.
 use mathlib.Core.List.{List, [], _∷_}
 

@@ -16,11 +16,12 @@ use Rattle.text.proofs.Decimal.{length-most}
 use Rattle.text.proofs.Sign.{signed-length}
 use Rattle.refusal.specs.Said.{Said, gives, refused}
 use Rattle.column.specs.declared.Column.{Column}
-use Rattle.column.specs.declared.Working.{Working}
-use Rattle.column.specs.Column.{Reached, asked}
-use Rattle.column.proofs.Most.{Most, asked-most}
+use Rattle.figure.specs.declared.Working.{Working}
+use Rattle.column.specs.Column.{Reached}
+use Rattle.figure.specs.Asked.{asked}
+use Rattle.figure.proofs.Most.{Most, asked-most}
 use Rattle.effects.specs.Check.{newtonsOf}
-use Rattle.effects.specs.Effect.{limit}
+use Rattle.newtons.specs.Effect.{limit}
 use Rattle.effects.specs.Fit.{Seven}
 use Rattle.combination.specs.declared.GoverningRow.{GoverningRow}
 use Rattle.combination.specs.declared.Governing.{Governing}
@@ -31,7 +32,8 @@ use Rattle.combination.proofs.Table.{sums-small}
 use Rattle.combination.proofs.Answers.{rows-govern}
 use Rattle.sheet.specs.declared.Sheet.{Sheet}
 use Rattle.sheet.specs.Keeps.{Keeps}
-use Rattle.report.specs.Report.{floorLine, lineAt, floorLines, effectsOf, governingLine, governingLines, takedownOf, refusalLine}
+use Rattle.report.specs.Report.{floorLine, floorLineOf, floorLines, effectsOf, governingLine, governingLines, takedownOf, refusalLine}
+use Rattle.report.specs.Table.{lineOf, workingAfter, tableLines}
 use Rattle.report.proofs.Live.{seven-within}
 
 -- the length of a floor's line, by the numbers in it
@@ -63,11 +65,11 @@ floor-most f w h m =
       length-most 12 (w .figure) (omega (arith, m .figure)),
     )
 
-line-most : (c : Column) (f : ℕ) → f ≤ 64 → Reached c → length (lineAt f (asked c f)) ≤ 61
-unfolding lineAt
+line-most : (c : Column) (f : ℕ) → f ≤ 64 → Reached c → length (floorLineOf f (asked c f)) ≤ 61
+unfolding floorLineOf
 line-most c f h r = go (asked c f) refl
   where
-    go : (s : Said Working) → asked c f ≡ s → length (lineAt f s) ≤ 61
+    go : (s : Said Working) → asked c f ≡ s → length (floorLineOf f s) ≤ 61
     go (gives w) e = floor-most f w h (asked-most f r e)
     go (refused n) e = omega arith
 
@@ -75,23 +77,23 @@ floors-most : (c : Column) (f : ℕ) → f ≤ 64 → Reached c → length (floo
 unfolding floorLines
 floors-most c zero h r = omega arith
 floors-most c (suc f) h r =
-    omega (arith, length-append (floorLines c f) (lineAt (suc f) (asked c (suc f))), floors-most c f (omega arith) r, line-most c (suc f) h r)
+    omega (arith, length-append (floorLines c f) (floorLineOf (suc f) (asked c (suc f))), floors-most c f (omega arith) r, line-most c (suc f) h r)
 
 -- the lines of the first floors are no longer than those of more
-floors-part : (c : Column) (f more : ℕ) → length (floorLines c f) ≤ length (floorLines c (f + more))
-unfolding floorLines
-floors-part c f zero = rw (add-zero f) (le-refl (length (floorLines c f)))
-floors-part c f (suc more) =
+table-part : (t : List ℕ) (f more : ℕ) → length (tableLines t f) ≤ length (tableLines t (f + more))
+unfolding tableLines
+table-part t f zero = rw (add-zero f) (le-refl (length (tableLines t f)))
+table-part t f (suc more) =
     let n = f + more in
-    rw (add-suc f more, length-append (floorLines c n) (lineAt (suc n) (asked c (suc n)))) (omega (arith, floors-part c f more))
+    rw (add-suc f more, length-append (tableLines t n) (lineOf (suc n) (workingAfter t n))) (omega (arith, table-part t f more))
 
 -- so where there is room for all 64, there is room for the next
-pub floors-next : (c : Column) (f : ℕ) → f < 64 → length (floorLines c f) + length (lineAt (f + 1) (asked c (f + 1))) ≤ length (floorLines c 64)
-unfolding floorLines
-floors-next c f h =
+pub table-next : (t : List ℕ) (f : ℕ) → f < 64 → length (tableLines t f) + length (lineOf (f + 1) (workingAfter t f)) ≤ length (tableLines t 64)
+unfolding tableLines
+table-next t f h =
     let e : suc f + (63 - f) ≡ 64 = omega arith in
-    let part : length (floorLines c (suc f)) ≤ length (floorLines c 64) = rw e at (floors-part c (suc f) (63 - f)) in
-    rw (add-one f) (omega (arith, part, length-append (floorLines c f) (lineAt (suc f) (asked c (suc f)))))
+    let part : length (tableLines t (suc f)) ≤ length (tableLines t 64) = rw e at (table-part t (suc f) (63 - f)) in
+    rw (add-one f) (omega (arith, part, length-append (tableLines t f) (lineOf (suc f) (workingAfter t f))))
 
 -- the length of both governing lines, by the numbers in them
 pub governings-length : (g : Governing)

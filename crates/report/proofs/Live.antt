@@ -1,8 +1,8 @@
 -- The seven effects of a sheet: the live effect is that of the column, and all are within the limit, so 64 bits and doubles keep them.
 -- Assumes nothing.
-use mathlib.Core.Path.{_≡_, refl, ap, subst⁻¹}
+use mathlib.Core.Path.{_≡_, refl, subst⁻¹}
 use mathlib.Core.List.{List}
-use Prim.Native.Nat.{ℕ, zero, suc, zero-le, _+_, _/_, _≤_}
+use Prim.Native.Nat.{ℕ, zero, suc, zero-le, _≤_}
 use native.Mathlib.Nat.{le-trans}
 use native.Mathlib.Omega.{arith}
 use lib.Dec.{T, lit<, lit≤}
@@ -13,36 +13,34 @@ use mir.Val.{toZ, ofZ}
 use Rattle.refusal.specs.Said.{Said, gives, refused}
 use Rattle.refusal.specs.Lists.{All, none, more}
 use Rattle.column.specs.declared.Column.{Column}
-use Rattle.column.specs.declared.Working.{Working}
+use Rattle.figure.specs.declared.Working.{Working}
 use Rattle.column.specs.Accepted.{lastFloor}
-use Rattle.column.specs.Column.{linesOf, Reached, asked}
-use Rattle.column.proofs.Most.{asked-most}
-use Rattle.effects.specs.Effect.{limit}
+use Rattle.column.specs.Column.{linesOf, Reached}
+use Rattle.figure.specs.Asked.{asked}
+use Rattle.figure.proofs.Most.{asked-most}
+use Rattle.newtons.specs.Effect.{limit}
 use Rattle.effects.specs.Check.{newtonsOf}
 use Rattle.effects.specs.Fit.{EachAtMost, Seven}
-use Rattle.effects.proofs.Numbers.{kept}
-use Rattle.effects.proofs.Values.{in-float}
+use Rattle.newtons.proofs.Numbers.{kept}
+use Rattle.newtons.proofs.Values.{in-float}
+use Rattle.sheet.specs.declared.SheetEffects.{SheetEffects}
 use Rattle.sheet.specs.declared.Sheet.{Sheet}
-use Rattle.sheet.specs.Keeps.{Keeps}
-use Rattle.report.specs.Report.{figureIn, liveOf, effectsOf}
+use Rattle.sheet.specs.Keeps.{EffectsWithin, Keeps}
+use Rattle.report.specs.Report.{figureIn, liveOf, effectsWith, effectsOf}
 
--- what asking at the last floor gives
-abbrev pub last : Column → Said Working
-last c = asked c (lastFloor (linesOf c))
-
--- the live effect by what asking there gives
-pub live-is : (c : Column) {s : Said Working} → last c ≡ s → liveOf c ≡ (figureIn s + 99) / 100
-unfolding liveOf
-live-is c e = ap (λ (s : Said Working). (figureIn s + 99) / 100) e
-
--- it is within the limit
-live-most : {c : Column} → Reached c → liveOf c ≤ limit
+-- no figure is above the largest
+pub figure-most : {c : Column} → Reached c → (f : ℕ) → figureIn (asked c f) ≤ 2560000000000
 unfolding figureIn
-live-most {c} r = go (last c) refl
+figure-most {c} r f = go (asked c f) refl
   where
-    go : (s : Said Working) → last c ≡ s → liveOf c ≤ limit
-    go (gives w) e = omega (arith, live-is c e, asked-most (lastFloor (linesOf c)) r e .figure)
-    go (refused n) e = omega (arith, live-is c e)
+    go : (s : Said Working) → asked c f ≡ s → figureIn s ≤ 2560000000000
+    go (gives w) e = asked-most f r e .figure
+    go (refused n) e = omega arith
+
+-- so the live effect is within the limit
+pub live-most : {c : Column} → Reached c → liveOf c ≤ limit
+unfolding liveOf
+live-most {c} r = omega (arith, figure-most r (lastFloor (linesOf c)))
 
 -- a list of which each number is at most so large
 each-of : {most : ℕ} {zs : List ℤ} → All (λ z. natAbs z ≤ most) zs → EachAtMost most zs
@@ -51,16 +49,17 @@ each-of (more h a) zero = h
 each-of (more h a) (suc k) = each-of a k
 
 -- all seven are within the limit
-pub seven-within : (s : Sheet) → Keeps s → Seven limit (newtonsOf (effectsOf s))
-unfolding newtonsOf effectsOf
-seven-within s k =
-    let e = k .effects in
+pub seven-with : (e : SheetEffects) (live : ℕ) → EffectsWithin e → live ≤ limit → Seven limit (newtonsOf (effectsWith e live))
+unfolding newtonsOf effectsWith
+seven-with e live k h =
     record {
       count = refl;
-      each =
-          each-of
-          (more (e .dead) (more (live-most (k .column)) (more (e .roof) (more (e .snow) (more (e .rain) (more (e .wind) (more (e .quake) none)))))));
+      each = each-of (more (k .dead) (more h (more (k .roof) (more (k .snow) (more (k .rain) (more (k .wind) (more (k .quake) none)))))));
     }
+
+pub seven-within : (s : Sheet) → Keeps s → Seven limit (newtonsOf (effectsOf s))
+unfolding effectsOf
+seven-within s k = seven-with (s .effects) (liveOf (s .column)) (k .effects) (live-most (k .column))
 
 -- 64 bits keep an effect within the limit
 pub effect-kept : (z : ℤ) → natAbs z ≤ limit → toZ w64 (ofZ w64 z) ≡ z

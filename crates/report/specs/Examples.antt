@@ -30,6 +30,7 @@ sample =
     ∷ "quake=0"
     ∷ []
 
+-- 01, The sheet: what it prints from it, "in whole"
 unfoldable pub sampleReport : List String
 sampleReport =
     "floor=1 floors=1 influence=6400 figure=2628800"

@@ -8,14 +8,16 @@ use lib.IntN.{pos}
 use Rattle.text.specs.Text.{bytesOf, ended, decimal, signedDecimal}
 use Rattle.refusal.specs.Said.{Said, gives, refused}
 use Rattle.column.specs.declared.Column.{Column}
-use Rattle.column.specs.declared.Working.{Working}
+use Rattle.figure.specs.declared.Working.{Working}
 use Rattle.column.specs.Accepted.{lastFloor}
-use Rattle.column.specs.Column.{linesOf, asked}
+use Rattle.column.specs.Column.{linesOf}
+use Rattle.figure.specs.Asked.{asked}
 use Rattle.effects.specs.declared.Newtons.{Newtons}
 use Rattle.effects.specs.Check.{newtonsOf}
 use Rattle.combination.specs.declared.GoverningRow.{GoverningRow}
 use Rattle.combination.specs.declared.Governing.{Governing}
 use Rattle.combination.specs.Combine.{governing}
+use Rattle.sheet.specs.declared.SheetEffects.{SheetEffects}
 use Rattle.sheet.specs.declared.Sheet.{Sheet}
 use Rattle.sheet.specs.declared.Reading.{Reading}
 use Rattle.sheet.specs.Sheet.{readSheet}
@@ -30,14 +32,14 @@ floorLine f w =
     ++ (bytesOf " figure=" ++ decimal (w .figure)))
 
 -- 01, The sheet: a floor that a line has is printed, and no other
-unfoldable pub lineAt : ℕ → Said Working → List ℕ
-lineAt f (gives w) = floorLine f w
-lineAt f (refused n) = []
+unfoldable pub floorLineOf : ℕ → Said Working → List ℕ
+floorLineOf f (gives w) = floorLine f w
+floorLineOf f (refused n) = []
 
 -- 01, The sheet: "Each distinct floor has one line, top first"; the floors from 1 to f
 unfoldable pub floorLines : Column → ℕ → List ℕ
 floorLines c zero = []
-floorLines c (suc f) = floorLines c f ++ lineAt (suc f) (asked c (suc f))
+floorLines c (suc f) = floorLines c f ++ floorLineOf (suc f) (asked c (suc f))
 
 -- 01, The sheet: the figure that asking gives; "0 without lines"
 unfoldable pub figureIn : Said Working → ℕ
@@ -48,23 +50,28 @@ figureIn (refused n) = 0
 unfoldable pub liveOf : Column → ℕ
 liveOf c = (figureIn (asked c (lastFloor (linesOf c))) + 99) / 100
 
+-- 01, Effects and the 25 combinations: the six effects of a sheet, with the live effect among them
+unfoldable pub effectsWith : SheetEffects → ℕ → Newtons
+effectsWith e live =
+    record {
+      dead = e .dead;
+      live = pos live;
+      roof = e .roof;
+      snow = e .snow;
+      rain = e .rain;
+      wind = e .wind;
+      quake = e .quake;
+    }
+
 -- 01, Effects and the 25 combinations: the seven effects of a sheet
 unfoldable pub effectsOf : Sheet → Newtons
-effectsOf s =
-    record {
-      dead = s .effects .dead;
-      live = pos (liveOf (s .column));
-      roof = s .effects .roof;
-      snow = s .effects .snow;
-      rain = s .effects .rain;
-      wind = s .effects .wind;
-      quake = s .effects .quake;
-    }
+effectsOf s = effectsWith (s .effects) (liveOf (s .column))
 
 -- 01, The sheet: "max and min are tenths"; a governing sum and its row
 unfoldable pub governingLine : List ℕ → GoverningRow → List ℕ
 governingLine key g = ended ((key ++ signedDecimal (g .tenths)) ++ (bytesOf " row=" ++ decimal (g .row)))
 
+-- 01, The sheet: the line of max, then the line of min
 unfoldable pub governingLines : Governing → List ℕ
 governingLines g = governingLine (bytesOf "max=") (g .greatest) ++ governingLine (bytesOf "min=") (g .least)
 
@@ -76,9 +83,10 @@ takedownOf s = floorLines (s .column) 64 ++ governingLines (governing (newtonsOf
 unfoldable pub refusalLine : ℕ → ℕ → List ℕ
 refusalLine n k = ended ((bytesOf "refused=" ++ decimal n) ++ (bytesOf " line=" ++ decimal k))
 
--- 01, The sheet: all that takedown prints
+-- 01, The sheet: all that takedown prints of what reading gave
 unfoldable pub printed : Reading → List ℕ
 printed r = cond (eqb (r .number) 0) (takedownOf (r .sheet)) (refusalLine (r .number) (r .line))
 
+-- 01, The sheet: all that takedown prints from a text
 unfoldable pub reportOf : List ℕ → List ℕ
 reportOf text = printed (readSheet text)

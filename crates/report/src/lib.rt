@@ -11,7 +11,7 @@ use sheet::Reading;
 mod lines;
 mod takedown;
 
-// Puts what is printed of a reading.
+// Puts what is printed of what reading gave.
 fn put_reading(out: &mut [u8], reading: Reading) -> usize
     requires { ⌜ (4096 ≤ length (now out)) × (reading .number ≡ 0 → Keeps (reading .sheet)) ⌝ }
     ensures { λ r. ⌜ Put (now (out .entry)) 0 (printed reading) (now (out .exit)) r × (r ≤ 4096) ⌝ }
@@ -31,6 +31,5 @@ pub fn report(text: &[u8], out: &mut [u8; 4096]) -> usize
     ensures { λ r. ⌜ take r (now (out .exit)) ≡ reportOf (now (text .entry)) ⌝ }
     ensures { λ r. ⌜ drop r (now (out .exit)) ≡ drop r (now (out .entry)) ⌝ }
 {
-    let reading = sheet::read(text);
-    put_reading(out, reading)
+    put_reading(out, sheet::read(text))
 }

@@ -5,9 +5,9 @@ ghost use lib.ListN.{length};
 ghost use Rattle.text.specs.Text.{newline, decimal, signedDecimal};
 ghost use Rattle.text.specs.Put.{Put};
 ghost use Rattle.report.specs.Report.{floorLine, governingLine, refusalLine};
-use column::Working;
 use combination::GoverningRow;
-use effects::signed;
+use figure::Working;
+use newtons::signed;
 
 // Puts a key and the number after it.
 fn put_field(out: &mut [u8], at: usize, key: &[u8], n: u64) -> usize

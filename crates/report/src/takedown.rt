@@ -1,69 +1,81 @@
 // The takedown of a sheet that keeps the limits: its floors, and then the rows that govern.
 ghost use mathlib.Core.Path.{_≡_};
-ghost use Prim.Native.Nat.{_+_, _≤_};
+ghost use Prim.Native.Nat.{_+_, _/_, _≤_};
 ghost use lib.ListN.{length};
 ghost use Rattle.text.specs.Put.{Put};
-ghost use Rattle.column.specs.Column.{Reached, asked};
-ghost use Rattle.effects.specs.Effect.{limit};
+ghost use Rattle.newtons.specs.Effect.{limit};
 ghost use Rattle.effects.specs.Check.{newtonsOf, doublesOf};
 ghost use Rattle.combination.specs.Combine.{governing};
-ghost use Rattle.sheet.specs.Keeps.{Keeps};
-ghost use Rattle.report.specs.Report.{lineAt, floorLines, liveOf, effectsOf, governingLines, takedownOf};
+ghost use Rattle.sheet.specs.Keeps.{EffectsWithin, Keeps};
+ghost use Rattle.report.specs.Report.{effectsWith, governingLines, takedownOf};
+ghost use Rattle.report.specs.Table.{lineOf, workingAfter, tableLines, figureAt};
 use crate::lines;
-use column::Asked;
-use column::Column;
 use combination::Combined;
 use effects::Effects;
+use figure::Working;
+use reduction::InfluenceArea;
 use sheet::Sheet;
+use sheet::SheetEffects;
 
-// Puts the line of a floor, and nothing where no line has that floor.
-fn put_floor(out: &mut [u8], at: usize, column: Column, floor: u64) -> usize
-    requires { ⌜ Reached column × (at + length (lineAt floor (asked column floor)) ≤ length (now out)) ⌝ }
-    ensures { λ r. ⌜ Put (now (out .entry)) at (lineAt floor (asked column floor)) (now (out .exit)) r ⌝ }
+// The working of a floor by its numbers in a table.
+fn working_after(table: &[u64; 192], floors: usize) -> Working
+    requires { ⌜ floors + 1 ≤ 64 ⌝ }
+    ensures { λ r. ⌜ r ≡ workingAfter (now (table .entry)) floors ⌝ }
 {
-    let answer = column::ask(column, floor);
-    match answer {
-        Asked::Gives(working) => lines::put_floor_line(out, at, floor, working),
-        Asked::Refused(_) => at,
+    let at = 3 * floors;
+    Working {
+        floors: table[at],
+        influence: InfluenceArea(table[at + 1]),
+        figure: table[at + 2],
     }
 }
 
+// Puts the line of a floor, and nothing where no line has that floor.
+fn put_floor(out: &mut [u8], at: usize, floor: u64, working: Working) -> usize
+    requires { ⌜ at + length (lineOf floor working) ≤ length (now out) ⌝ }
+    ensures { λ r. ⌜ Put (now (out .entry)) at (lineOf floor working) (now (out .exit)) r ⌝ }
+{
+    if working.floors == 0 {
+        return at;
+    }
+    lines::put_floor_line(out, at, floor, working)
+}
+
 // Puts the lines of all floors, top first.
-fn put_floors(out: &mut [u8], column: Column) -> usize
-    requires { ⌜ Reached column × (length (floorLines column 64) ≤ length (now out)) ⌝ }
-    ensures { λ r. ⌜ Put (now (out .entry)) 0 (floorLines column 64) (now (out .exit)) r ⌝ }
+fn put_floors(out: &mut [u8], table: &[u64; 192]) -> usize
+    requires { ⌜ length (tableLines (now table) 64) ≤ length (now out) ⌝ }
+    ensures { λ r. ⌜ Put (now (out .entry)) 0 (tableLines (now (table .entry)) 64) (now (out .exit)) r ⌝ }
 {
     let mut at = 0;
-    let mut floor: u64 = 0;
-    while floor < 64 {
-        floor += 1;
-        at = put_floor(out, at, column, floor);
+    let mut floors: usize = 0;
+    while floors < 64 {
+        let working = working_after(table, floors);
+        floors += 1;
+        at = put_floor(out, at, floors as u64, working);
     }
     at
 }
 
 // The figure at the last floor in whole newtons, rounded up; 0 without lines.
-fn live_effect(column: Column) -> u64
-    requires { ⌜ Reached column ⌝ }
-    ensures { λ r. ⌜ (r ≡ liveOf column) × (r ≤ limit) ⌝ }
+fn live_effect(table: &[u64; 192], last: u64) -> u64
+    requires { ⌜ (last ≤ 64) × (figureAt (now table) last ≤ 2560000000000) ⌝ }
+    ensures { λ r. ⌜ (r ≡ (figureAt (now (table .entry)) last + 99) / 100) × (r ≤ limit) ⌝ }
 {
-    let answer = column::ask(column, column::last_floor(column));
-    match answer {
-        Asked::Gives(working) => (working.figure + 99) / 100,
-        Asked::Refused(_) => 0,
+    if last == 0 {
+        return 0;
     }
+    let working = working_after(table, (last - 1) as usize);
+    (working.figure + 99) / 100
 }
 
 // The seven effects of a sheet as doubles, as combining takes them.
-fn doubles_of(sheet: Sheet) -> Effects
-    requires { ⌜ Keeps sheet ⌝ }
-    ensures { λ r. ⌜ r ≡ doublesOf (effectsOf sheet) ⌝ }
+fn doubles_of(effects: SheetEffects, live: u64) -> Effects
+    requires { ⌜ EffectsWithin effects × (live ≤ limit) ⌝ }
+    ensures { λ r. ⌜ r ≡ doublesOf (effectsWith effects live) ⌝ }
 {
-    let column = sheet.column;
-    let effects = sheet.effects;
     Effects {
         dead: effects.dead as f64,
-        live: live_effect(column) as f64,
+        live: live as f64,
         roof: effects.roof as f64,
         snow: effects.snow as f64,
         rain: effects.rain as f64,
@@ -74,11 +86,11 @@ fn doubles_of(sheet: Sheet) -> Effects
 
 // Puts the lines of the greatest and the least sum. The effects are whole and within the limit, so
 // combining refuses none.
-fn put_governing(out: &mut [u8], at: usize, sheet: Sheet) -> usize
-    requires { ⌜ Keeps sheet × (at + length (governingLines (governing (newtonsOf (effectsOf sheet)))) ≤ length (now out)) ⌝ }
-    ensures { λ r. ⌜ Put (now (out .entry)) at (governingLines (governing (newtonsOf (effectsOf sheet)))) (now (out .exit)) r ⌝ }
+fn put_governing(out: &mut [u8], at: usize, effects: SheetEffects, live: u64) -> usize
+    requires { ⌜ EffectsWithin effects × (live ≤ limit) × (at + length (governingLines (governing (newtonsOf (effectsWith effects live)))) ≤ length (now out)) ⌝ }
+    ensures { λ r. ⌜ Put (now (out .entry)) at (governingLines (governing (newtonsOf (effectsWith effects live)))) (now (out .exit)) r ⌝ }
 {
-    let combined = combination::combine(doubles_of(sheet));
+    let combined = combination::combine(doubles_of(effects, live));
     match combined {
         Combined::Governs(governing) => {
             let greatest = governing.greatest;
@@ -96,6 +108,12 @@ pub fn put_takedown(out: &mut [u8], sheet: Sheet) -> usize
     ensures { λ r. ⌜ Put (now (out .entry)) 0 (takedownOf sheet) (now (out .exit)) r ⌝ }
 {
     let column = sheet.column;
-    let next = put_floors(out, column);
-    put_governing(out, next, sheet)
+    let effects = sheet.effects;
+    let member = column.member;
+    let mut table = [0u64; 192];
+    figure::work_out(&column.held, member, column.count, &mut table);
+    let last = column::last_floor(&column.held, member, column.count);
+    let live = live_effect(&table, last);
+    let next = put_floors(out, &table);
+    put_governing(out, next, effects, live)
 }

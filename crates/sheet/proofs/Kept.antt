@@ -8,10 +8,10 @@ use native.Mathlib.Omega.{arith}
 use lib.Dec.{leb, ltb, eqb}
 use lib.IntN.{ℤ}
 use lib.ListN.{length}
-use borrow.Author.Tests.{leb-true, eqb-true, eqb-false}
+use borrow.Author.Tests.{leb-true, eqb-true, eqb-false, ne-eqb}
 use Rattle.column.specs.Column.{memberOf, Reached}
 use Rattle.column.proofs.Reach.{opened-code, opened-column, reached-opened, reached-entered}
-use Rattle.effects.specs.Effect.{magnitudeOf, limit}
+use Rattle.newtons.specs.Effect.{magnitudeOf, limit}
 use Rattle.form.specs.declared.Due.{Due}
 use Rattle.form.specs.declared.Due.the-variants as D
 use Rattle.form.specs.declared.Form.{Form}
@@ -20,12 +20,10 @@ use Rattle.form.specs.Form.{formOf}
 use Rattle.form.proofs.Only.{member-first}
 use Rattle.sheet.specs.declared.SheetEffects.{SheetEffects}
 use Rattle.sheet.specs.declared.Sheet.{Sheet}
-use Rattle.sheet.specs.declared.steps.Draft.{Draft}
-use Rattle.sheet.specs.declared.steps.Taken.{Taken}
 use Rattle.sheet.specs.declared.Reading.{Reading}
 use Rattle.sheet.specs.Lines.{Lines, line, rest, split}
-use Rattle.sheet.specs.Sheet.{unread, isComplete, withEffect, withNext, ifTaken, effectNumber, valued, lineTaken, reading, ifRead, readFrom, readSheet}
-use Rattle.sheet.specs.Keeps.{Within, Keeps, KeepsSoFar}
+use Rattle.sheet.specs.Sheet.{Draft, Taken, unread, dueAfter, isComplete, withEffect, withNext, ifTaken, effectNumber, valued, lineTaken, reading, ifRead, readFrom, readSheet}
+use Rattle.sheet.specs.Keeps.{EffectsWithin, Keeps, KeepsSoFar}
 
 -- the draft keeps the limits
 abbrev pub Kept : Draft → Type 0
@@ -49,7 +47,7 @@ effect-taken z e = go (leb (magnitudeOf z) limit) refl e
     go true h e = leb-true (magnitudeOf z) limit h
     go false h e = absurd (omega arith)
 
-with-kept : (due : Due) (z : ℤ) (e : SheetEffects) → magnitudeOf z ≤ limit → Within e → Within (withEffect due z e)
+with-kept : (due : Due) (z : ℤ) (e : SheetEffects) → magnitudeOf z ≤ limit → EffectsWithin e → EffectsWithin (withEffect due z e)
 unfolding withEffect
 with-kept D.FloorOrDead z e h w = record { dead = h; roof = w .roof; snow = w .snow; rain = w .rain; wind = w .wind; quake = w .quake }
 with-kept D.Roof z e h w = record { dead = w .dead; roof = h; snow = w .snow; rain = w .rain; wind = w .wind; quake = w .quake }
@@ -71,19 +69,35 @@ pub opened-before : (d : Draft) (l : List ℕ) (f : Form) → formOf (d .due) l 
 unfolding Later
 opened-before d l f e k h = k .column (λ q. member-first l (d .due) f e q (λ g. Later g → ⊥) (λ code z. z) (λ z. z) h)
 
+-- a member is due before the first line alone
+later : {A : Type 0} → D.FloorOrDead ≡ D.Member → A
+later q = let z : _≡_ {A = ℕ} 0 1 = cc in absurd (omega arith)
+
+after-later : {A : Type 0} (due : Due) → dueAfter due ≡ D.Member → A
+unfolding dueAfter
+after-later D.Member q = let z : _≡_ {A = ℕ} 0 1 = cc in absurd (omega arith)
+after-later D.FloorOrDead q = let z : _≡_ {A = ℕ} 0 1 = cc in absurd (omega arith)
+after-later D.Roof q = let z : _≡_ {A = ℕ} 0 1 = cc in absurd (omega arith)
+after-later D.Snow q = let z : _≡_ {A = ℕ} 0 1 = cc in absurd (omega arith)
+after-later D.Rain q = let z : _≡_ {A = ℕ} 0 1 = cc in absurd (omega arith)
+after-later D.Wind q = let z : _≡_ {A = ℕ} 0 1 = cc in absurd (omega arith)
+after-later D.Quake q = let z : _≡_ {A = ℕ} 0 1 = cc in absurd (omega arith)
+after-later D.Nothing q = let z : _≡_ {A = ℕ} 0 1 = cc in absurd (omega arith)
+
 valued-kept : (d : Draft) (l : List ℕ) (f : Form) → formOf (d .due) l ≡ f → Kept d → Kept (valued d f .draft)
 unfolding valued Later
 valued-kept d l (F.Member code) e k =
     if-kept _ d _ k λ z.
     record {
+      before = λ q. later q;
       column = λ _. subst⁻¹ Reached (opened-column (memberOf code) z) (reached-opened (memberOf code) (opened-code (memberOf code) z));
       effects = k .effects;
     }
 valued-kept d l (F.Floor x) e k =
-    if-kept _ d _ k λ z. record { column = λ _. reached-entered x (opened-before d l (F.Floor x) e k tt); effects = k .effects }
+    if-kept _ d _ k λ z. record { before = λ q. later q; column = λ _. reached-entered x (opened-before d l (F.Floor x) e k tt); effects = k .effects }
 valued-kept d l (F.Effect z) e k =
     if-kept (effectNumber z) d (withNext d z) k λ h.
-    record { column = λ _. opened-before d l (F.Effect z) e k tt; effects = with-kept (d .due) z _ (effect-taken z h) (k .effects) }
+    record { before = λ q. after-later (d .due) q; column = λ _. opened-before d l (F.Effect z) e k tt; effects = with-kept (d .due) z _ (effect-taken z h) (k .effects) }
 valued-kept d l F.Malformed e k = if-kept _ d d k (λ _. k)
 
 -- a line leaves a draft that keeps the limits
@@ -91,10 +105,27 @@ pub line-kept : (d : Draft) (l : List ℕ) → Kept d → Kept (lineTaken d l .d
 unfolding lineTaken
 line-kept d l k = valued-kept d l (formOf (d .due) l) refl k
 
+-- a line that is refused leaves the draft as it was
+if-same : (n : ℕ) (d next : Draft) → (n ≡ 0 → ⊥) → ifTaken n d next .draft ≡ d
+unfolding ifTaken
+if-same n d next h = rw (ne-eqb n 0 h)
+
+valued-same : (d : Draft) (f : Form) → (valued d f .number ≡ 0 → ⊥) → valued d f .draft ≡ d
+unfolding valued ifTaken
+valued-same d (F.Member code) h = if-same _ d _ h
+valued-same d (F.Floor x) h = if-same _ d _ h
+valued-same d (F.Effect z) h = if-same (effectNumber z) d (withNext d z) h
+valued-same d F.Malformed h = if-same _ d d h
+
+pub line-refused : (d : Draft) (l : List ℕ) → (lineTaken d l .number ≡ 0 → ⊥) → lineTaken d l .draft ≡ d
+unfolding lineTaken
+line-refused d l h = valued-same d (formOf (d .due) l) h
+
 -- before the first line nothing is asked of the column, and no effect is beyond the limit
 pub unread-kept : Kept unread
 unread-kept =
     record {
+      before = λ _. refl;
       column = λ h. absurd (h refl);
       effects = record { dead = omega arith; roof = omega arith; snow = omega arith; rain = omega arith; wind = omega arith; quake = omega arith };
     }

@@ -8,15 +8,13 @@ use native.Mathlib.Omega.{arith}
 use native.Mathlib.Nat.{not-suc-le-zero}
 use lib.Dec.{eqb, ltb}
 use lib.ListN.{length, drop, take, drop-of-length-le, length-drop, length-append}
-use lib.Seq.{drop-drop, length-take-le, take-length}
+use lib.Seq.{drop-drop, length-take-le}
 use borrow.Author.Tests.{le-ltb}
-use Rattle.bytes.specs.Bytes.{slice, indexOf, indexAfter}
+use Rattle.bytes.specs.Bytes.{indexOf, indexAfter}
 use Rattle.text.specs.Text.{newline, ended}
-use Rattle.sheet.specs.declared.steps.Draft.{Draft}
-use Rattle.sheet.specs.declared.steps.Taken.{Taken}
 use Rattle.sheet.specs.declared.Reading.{Reading}
 use Rattle.sheet.specs.Lines.{Lines, line, rest, withByte, split}
-use Rattle.sheet.specs.Sheet.{unread, isComplete, lineTaken, reading, ifRead, readFrom, readSheet}
+use Rattle.sheet.specs.Sheet.{Draft, Taken, unread, isComplete, lineTaken, reading, ifRead, readFrom, readSheet}
 use Rattle.sheet.specs.Keeps.{Keeps}
 use Rattle.sheet.proofs.Bytes.{bytes, bytes-split}
 use Rattle.sheet.proofs.Kept.{read-keeps}
@@ -57,11 +55,6 @@ index-none (b ∷ bs) h = go (eqb b newline) h (index-none bs)
         → cond t (line [] (split bs)) (withByte b (split bs)) ≡ rest (b ∷ bs)
     go true h f = absurd (omega arith)
     go false h f = rw (f (omega arith))
-
--- what a search up to the end of a text looks at
-pub slice-all : (text : List ℕ) (at : ℕ) → slice at (length text) text ≡ drop at text
-unfolding slice
-slice-all text at = ap (drop at) (take-length text)
 
 module _ (text : List ℕ) (k at : ℕ) (d : Draft) where
   -- the text has ended

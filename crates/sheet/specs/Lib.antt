@@ -1,4 +1,6 @@
--- The definitions of reading a sheet; paper 01 in its order.
+-- The definitions of reading a sheet; paper 01 in its order, then what private functions ask.
 pub mod Lines
 pub mod Sheet
 pub mod Keeps
+pub mod InPlace
+pub mod LineEnd

@@ -8,17 +8,26 @@ use lib.IntN.{ℤ, pos}
 use lib.ListN.{length, take, drop}
 use Rattle.column.specs.declared.Column.{Column}
 use Rattle.column.specs.Column.{Outcome, memberOf, unopened, openedOf, enteredOf}
-use Rattle.effects.specs.Effect.{within}
+use Rattle.newtons.specs.Effect.{within}
 use Rattle.form.specs.declared.Due.{Due}
 use Rattle.form.specs.declared.Due.the-variants as D
 use Rattle.form.specs.declared.Form.{Form}
 use Rattle.form.specs.declared.Form.the-variants as F
 use Rattle.form.specs.Form.{formOf}
 use Rattle.sheet.specs.declared.SheetEffects.{SheetEffects}
-use Rattle.sheet.specs.declared.steps.Draft.{Draft}
-use Rattle.sheet.specs.declared.steps.Taken.{Taken}
+use Rattle.sheet.specs.declared.Sheet.{Sheet}
 use Rattle.sheet.specs.declared.Reading.{Reading}
 use Rattle.sheet.specs.Lines.{Lines, line, rest, split}
+
+-- a sheet as far as it was read, and the line that is due
+pub record Draft : Type 0 where
+  pub due : Due
+  pub sheet : Sheet
+
+-- what becomes of a line: the number of its refusal, 0 where it is taken, and the draft then
+pub record Taken : Type 0 where
+  pub number : ℕ
+  pub draft : Draft
 
 -- before the first line: no member is opened, and all effects are 0
 abbrev pub noEffects : SheetEffects
@@ -79,7 +88,7 @@ effectNumber z = cond (within z) 0 9
 abbrev pub withOutcome : Draft → Outcome → Taken
 withOutcome d o = ifTaken (o .number) d (withColumn d (o .column))
 
--- 01, Numbers by the place of checking: of a line that has the form, its values: 1; 2 to 6; 9; without the form 10
+-- 01, Numbers by the place of checking: the number of each case of a form: of a line that has the form, by its values, 1; 2 to 6; 9; without the form 10
 unfoldable pub valued : Draft → Form → Taken
 valued d (F.Member code) = withOutcome d (openedOf (memberOf code))
 valued d (F.Floor l) = withOutcome d (enteredOf (d .sheet .column) l)

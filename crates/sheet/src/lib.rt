@@ -1,11 +1,17 @@
 // A text sheet read into a column and six effects, line by line; and the part of a text that is refused.
 ghost use mathlib.Core.Path.{_≡_};
+ghost use mathlib.Core.List.{List};
+ghost use Prim.Native.Nat.{ℕ};
+ghost use lib.ListN.{replicate};
 ghost use Rattle.sheet.specs.Sheet.{reading, readSheet, offendingOf, offendingAt};
 ghost use Rattle.sheet.specs.Keeps.{Keeps};
+ghost use Rattle.sheet.specs.InPlace.{draftOf, summarySheet, readingOf};
 use column::Column;
+use column::Member;
 use refusal::Refusal;
-use steps::Draft;
+use steps::Progress;
 
+mod line_end;
 mod steps;
 
 // The most bytes that a sheet may have.
@@ -38,56 +44,98 @@ pub struct Reading {
     pub sheet: Sheet,
 }
 
+// The same while a sheet is read: its member, its effects and so many lines, whose numbers are in
+// places beside.
+struct Summary {
+    pub number: u64,
+    pub line: u64,
+    pub start: usize,
+    pub end: usize,
+    pub member: Member,
+    pub count: u16,
+    pub effects: SheetEffects,
+}
+
 // What reading gives where it stops.
-fn stopped(number: u64, line: u64, start: usize, end: usize, draft: Draft) -> Reading
-    ensures { λ r. ⌜ r ≡ reading number line start end draft ⌝ }
+fn stopped(number: u64, line: u64, start: usize, end: usize, progress: Progress) -> Summary
+    ensures { λ r. ⌜ ((places : List ℕ) → readingOf r places ≡ reading number line start end (draftOf progress places)) ⌝ }
 {
-    let sheet = draft.sheet;
-    Reading {
+    let member = progress.member;
+    let effects = progress.effects;
+    Summary {
         number: number,
         line: line,
         start: start,
         end: end,
-        sheet: sheet,
+        member: member,
+        count: progress.count,
+        effects: effects,
     }
 }
 
 // What reading gives at a line without the form, one that is missing or text left over.
-fn malformed(line: u64, start: usize, end: usize, draft: Draft) -> Reading
-    ensures { λ r. ⌜ r ≡ reading 10 line start end draft ⌝ }
+fn malformed(line: u64, start: usize, end: usize, progress: Progress) -> Summary
+    ensures { λ r. ⌜ ((places : List ℕ) → readingOf r places ≡ reading 10 line start end (draftOf progress places)) ⌝ }
 {
     let number = refusal::number(Refusal::SheetMalformed);
-    stopped(number, line, start, end, draft)
+    stopped(number, line, start, end, progress)
+}
+
+// Reads a sheet line by line, each its form and then its values, with the lines' numbers put into
+// places that are all 0.
+fn read_in(held: &mut [u32; 1024], text: &[u8]) -> Summary
+    requires { ⌜ now held ≡ replicate 1024 0 ⌝ }
+    ensures { λ r. ⌜ readingOf r (now (held .exit)) ≡ readSheet (now (text .entry)) ⌝ }
+    ensures { λ r. ⌜ (r .number ≡ 0 → Keeps (summarySheet r (now (held .exit)))) ⌝ }
+{
+    let mut progress = steps::unread();
+    if text.len() > LONGEST {
+        return stopped(refusal::number(Refusal::SheetTooLong), 0, 0, 0, progress);
+    }
+    let mut at = 0;
+    let mut line: u64 = 0;
+    while at < text.len() {
+        let end = line_end::line_end(text, at);
+        if end == text.len() {
+            return malformed(line + 1, at, end, progress);
+        }
+        let step = steps::take_line(held, progress, &text[at..end]);
+        if step.number != 0 {
+            return stopped(step.number, line + 1, at, end, progress);
+        }
+        progress = step.progress;
+        at = end + 1;
+        line += 1;
+    }
+    let due = progress.due;
+    if steps::is_complete(due) {
+        return stopped(0, line, at, at, progress);
+    }
+    malformed(line + 1, at, at, progress)
 }
 
 // Reads a sheet line by line, each its form and then its values.
 pub fn read(text: &[u8]) -> Reading
     ensures { λ r. ⌜ (r ≡ readSheet (now (text .entry))) × (r .number ≡ 0 → Keeps (r .sheet)) ⌝ }
 {
-    let mut draft = steps::unread();
-    if text.len() > LONGEST {
-        return stopped(refusal::number(Refusal::SheetTooLong), 0, 0, 0, draft);
+    let mut held = [0u32; 1024];
+    let summary = read_in(&mut held, text);
+    let member = summary.member;
+    let effects = summary.effects;
+    Reading {
+        number: summary.number,
+        line: summary.line,
+        start: summary.start,
+        end: summary.end,
+        sheet: Sheet {
+            column: Column {
+                member: member,
+                count: summary.count,
+                held: held,
+            },
+            effects: effects,
+        },
     }
-    let mut at = 0;
-    let mut line: u64 = 0;
-    while at < text.len() {
-        let end = bytes::scan::find(text, at, text.len(), b'\n');
-        if end == text.len() {
-            return malformed(line + 1, at, end, draft);
-        }
-        let taken = steps::take_line(draft, &text[at..end]);
-        if taken.number != 0 {
-            return stopped(taken.number, line + 1, at, end, draft);
-        }
-        draft = taken.draft;
-        at = end + 1;
-        line += 1;
-    }
-    let due = draft.due;
-    if steps::is_complete(due) {
-        return stopped(0, line, at, at, draft);
-    }
-    malformed(line + 1, at, at, draft)
 }
 
 // The part of a text that is refused, without its newline, in the text's own memory; the empty part at

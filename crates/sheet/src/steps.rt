@@ -1,47 +1,50 @@
 // One line of a sheet: what becomes of the sheet as far as it was read.
 ghost use mathlib.Core.Path.{_≡_};
-ghost use Rattle.column.specs.Column.{outcome};
-ghost use Rattle.sheet.specs.Sheet.{unread, dueAfter, isComplete, withEffect, effectNumber, withOutcome, valued, lineTaken};
-ghost use Rattle.form.specs.declared.Form.the-variants.{Effect};
+ghost use mathlib.Core.List.{List};
+ghost use Prim.Native.Nat.{ℕ};
+ghost use lib.ListN.{replicate};
+ghost use Rattle.column.specs.Column.{columnFrom, unopened, Reached};
+ghost use Rattle.form.specs.declared.Form.the-variants as Form;
+ghost use Rattle.sheet.specs.Sheet.{unread, dueAfter, isComplete, withEffect, effectNumber, valued, lineTaken};
 ghost use Rattle.sheet.specs.Keeps.{KeepsSoFar};
-use crate::Sheet;
+ghost use Rattle.sheet.specs.InPlace.{draftOf, takenOf};
 use crate::SheetEffects;
-use column::Changed;
+use column::Line;
+use column::Member;
 use form::Due;
 use form::Form;
 use refusal::Refusal;
 
-// A sheet as far as it was read, and the line that is due.
-pub struct Draft {
+// A sheet as far as it was read, its lines aside, whose numbers are in the lent places; and the line
+// that is due.
+pub struct Progress {
     pub due: Due,
-    pub sheet: Sheet,
+    pub member: Member,
+    pub count: u16,
+    pub effects: SheetEffects,
 }
 
-// What becomes of a line: the number of its refusal, 0 where it is taken, and the draft then.
-pub struct Taken {
+// What becomes of a line: the number of its refusal, 0 where it is taken, and the sheet then.
+pub struct Step {
     pub number: u64,
-    pub draft: Draft,
+    pub progress: Progress,
 }
 
 // Before the first line: no member is opened, and all effects are 0.
-pub fn unread() -> Draft
-    ensures { λ r. ⌜ r ≡ unread ⌝ }
+pub fn unread() -> Progress
+    ensures { λ r. ⌜ draftOf r (replicate 1024 0) ≡ unread ⌝ }
 {
-    // A refused opening leaves the column that stands where none is opened.
-    let refused = column::open(0);
-    let column = refused.column;
-    Draft {
+    Progress {
         due: Due::Member,
-        sheet: Sheet {
-            column: column,
-            effects: SheetEffects {
-                dead: 0,
-                roof: 0,
-                snow: 0,
-                rain: 0,
-                wind: 0,
-                quake: 0,
-            },
+        member: Member { code: 0 },
+        count: 0,
+        effects: SheetEffects {
+            dead: 0,
+            roof: 0,
+            snow: 0,
+            rain: 0,
+            wind: 0,
+            quake: 0,
         },
     }
 }
@@ -117,84 +120,106 @@ fn with_effect(due: Due, newtons: i64, effects: SheetEffects) -> SheetEffects
 fn effect_number(newtons: i64) -> u64
     ensures { λ r. ⌜ r ≡ effectNumber newtons ⌝ }
 {
-    if effects::is_within(newtons) {
+    if newtons::is_within(newtons) {
         return 0;
     }
     refusal::number(Refusal::EffectOutOfRange)
 }
 
-// The draft after opening a member or entering a line; as it was where that is refused.
-fn with_outcome(draft: Draft, changed: Changed) -> Taken
-    ensures { λ r. ⌜ r ≡ withOutcome draft (outcome changed) ⌝ }
+// The sheet with a member that is opened; as it was where opening is refused. No line is held before
+// the member, so the places are those of a column without lines.
+fn open_member(progress: Progress, code: u64) -> Step
+    ensures { λ r. ⌜ ((places : List ℕ) → columnFrom (progress .member) (progress .count) places ≡ unopened → takenOf r places ≡ valued (draftOf progress places) (Form.Member code)) ⌝ }
 {
-    let verdict = changed.verdict;
+    let opened = column::open(code);
+    let verdict = opened.verdict;
     let number = column::verdict_number(verdict);
     if number != 0 {
-        return Taken {
+        return Step {
             number: number,
-            draft: draft,
+            progress: progress,
         };
     }
-    let sheet = draft.sheet;
-    let effects = sheet.effects;
-    let column = changed.column;
-    Taken {
+    let column = opened.column;
+    let member = column.member;
+    let effects = progress.effects;
+    Step {
         number: 0,
-        draft: Draft {
+        progress: Progress {
             due: Due::FloorOrDead,
-            sheet: Sheet {
-                column: column,
-                effects: effects,
-            },
+            member: member,
+            count: 0,
+            effects: effects,
         },
     }
 }
 
-// The draft with an effect; as it was where the effect is beyond the limit.
-fn take_effect(draft: Draft, newtons: i64) -> Taken
-    ensures { λ r. ⌜ r ≡ valued draft (Effect newtons) ⌝ }
+// The sheet with a line that is entered; as it was where entering is refused.
+fn enter_line(held: &mut [u32; 1024], progress: Progress, line: Line) -> Step
+    requires { ⌜ Reached (columnFrom (progress .member) (progress .count) (now held)) ⌝ }
+    ensures { λ r. ⌜ takenOf r (now (held .exit)) ≡ valued (draftOf progress (now (held .entry))) (Form.Floor line) ⌝ }
+{
+    let member = progress.member;
+    let joined = column::enter_in(held, member, progress.count, line);
+    let verdict = joined.verdict;
+    let number = column::verdict_number(verdict);
+    if number != 0 {
+        return Step {
+            number: number,
+            progress: progress,
+        };
+    }
+    let effects = progress.effects;
+    Step {
+        number: 0,
+        progress: Progress {
+            due: Due::FloorOrDead,
+            member: member,
+            count: joined.count,
+            effects: effects,
+        },
+    }
+}
+
+// The sheet with an effect; as it was where the effect is beyond the limit.
+fn take_effect(progress: Progress, newtons: i64) -> Step
+    ensures { λ r. ⌜ ((places : List ℕ) → takenOf r places ≡ valued (draftOf progress places) (Form.Effect newtons)) ⌝ }
 {
     let refused = effect_number(newtons);
     if refused != 0 {
-        return Taken {
+        return Step {
             number: refused,
-            draft: draft,
+            progress: progress,
         };
     }
-    let due = draft.due;
-    let sheet = draft.sheet;
-    let before = sheet.effects;
-    let column = sheet.column;
-    Taken {
+    let due = progress.due;
+    let member = progress.member;
+    let before = progress.effects;
+    Step {
         number: 0,
-        draft: Draft {
+        progress: Progress {
             due: due_after(due),
-            sheet: Sheet {
-                column: column,
-                effects: with_effect(due, newtons, before),
-            },
+            member: member,
+            count: progress.count,
+            effects: with_effect(due, newtons, before),
         },
     }
 }
 
-// The draft after a line, given without its newline: its form, then its values.
-pub fn take_line(draft: Draft, line: &[u8]) -> Taken
-    requires { ⌜ KeepsSoFar (draft .due) (draft .sheet) ⌝ }
-    ensures { λ r. ⌜ r ≡ lineTaken draft (now (line .entry)) ⌝ }
+// The sheet after a line, given without its newline: its form, then its values.
+pub fn take_line(held: &mut [u32; 1024], progress: Progress, line: &[u8]) -> Step
+    requires { ⌜ KeepsSoFar (progress .due) (draftOf progress (now held) .sheet) ⌝ }
+    ensures { λ r. ⌜ takenOf r (now (held .exit)) ≡ lineTaken (draftOf progress (now (held .entry))) (now (line .entry)) ⌝ }
 {
-    let due = draft.due;
+    let due = progress.due;
     let form = form::form_of(due, line);
     match form {
-        Form::Member(code) => with_outcome(draft, column::open(code)),
-        Form::Floor(entry) => {
-            let sheet = draft.sheet;
-            let column = sheet.column;
-            with_outcome(draft, column::enter(column, entry))
-        }
-        Form::Effect(newtons) => take_effect(draft, newtons),
-        Form::Malformed => Taken {
+        Form::Member(code) => open_member(progress, code),
+        Form::Floor(entry) => enter_line(held, progress, entry),
+        Form::Effect(newtons) => take_effect(progress, newtons),
+        Form::Malformed => Step {
             number: refusal::number(Refusal::SheetMalformed),
-            draft: draft,
+            progress: progress,
         },
     }
 }

@@ -2,11 +2,11 @@
 ghost use Prim.Native.Nat.{_≤_};
 ghost use Rattle.column.specs.Column.{Reached};
 use crate::print;
-use column::Asked;
 use column::Column;
 use column::Line;
 use column::Verdict;
-use reduction::TributaryArea;
+use figure::Asked;
+use member::TributaryArea;
 
 // Room for the numbers of 300 entries.
 const ROOM: usize = 1200;
@@ -84,7 +84,7 @@ pub fn enter(state: State, floor: u64, class: u64, load: u64, area: u64) -> Stat
 pub fn ask(state: State, floor: u64)
     requires { ⌜ Reached (state .column) ⌝ }
 {
-    print::print_asked(column::ask(state.column, floor));
+    print::print_asked(figure::ask(state.column, floor));
 }
 
 // How many of the numbers are left where the last few are left off.
@@ -104,7 +104,7 @@ fn left(count: usize, off: u64) -> usize
 fn asked_after(code: u64, numbers: [u64; ROOM], end: usize, floor: u64) -> Asked
     requires { ⌜ end ≤ 1200 ⌝ }
 {
-    column::figure_after(code, &numbers[..end], floor)
+    demand3::figure_after(code, &numbers[..end], floor)
 }
 
 // Asks at a floor after the whole list of numbers, of which the last few are left off.

@@ -96,7 +96,7 @@ fn answer(state: State, line: &[u8]) -> State
     let n = asked.numbers;
     let kind = asked.kind;
     match kind {
-        Kind::Factor => print::print_answer(b"factor=", reduction::factor(n[0])),
+        Kind::Factor => print::print_answer(b"factor=", member::factor(n[0])),
         Kind::Reduced => print::print_answer(b"reduced=", reduced_load(n)),
         Kind::Open => return columns::open(state, n[0]),
         Kind::Enter => return columns::enter(state, n[0], n[1], n[2], n[3]),

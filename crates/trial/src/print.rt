@@ -1,6 +1,6 @@
 // Prints answers to standard output, a line each.
-use column::Asked;
 use column::Verdict;
+use figure::Asked;
 use libc::STDOUT_FILENO;
 use refusal::Answer;
 use refusal::Refusal;

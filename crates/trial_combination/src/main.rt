@@ -16,7 +16,7 @@ fn answer(line: &[u8]) {
         let given = doubles::double_from(&line[6..22]);
         if line[0] == b'w' {
             if given.well {
-                print::print_effect(effects::whole_of(given.double));
+                print::print_effect(newtons::whole_of(given.double));
                 return;
             }
         }

@@ -1,10 +1,10 @@
 // Prints answers to standard output, a line each.
 use combination::Combined;
 use combination::GoverningRow;
-use effects::Effect;
 use effects::Load;
 use effects::RefusedEffect;
 use libc::STDOUT_FILENO;
+use newtons::Effect;
 use refusal::Refusal;
 
 // Writes a text.
@@ -22,7 +22,7 @@ fn write_whole(n: i64) {
     if n < 0 {
         write(b"-");
     }
-    io::print_decimal(STDOUT_FILENO, effects::signed::magnitude(n));
+    io::print_decimal(STDOUT_FILENO, newtons::signed::magnitude(n));
 }
 
 // Writes the bits of a double; a NaN's cannot be read here.

@@ -8,8 +8,8 @@ use native.Mathlib.Omega.{arith}
 use lib.IntN.{ℤ}
 use lib.ListN.{length, length-append}
 use borrow.Author.Tests.{le-leb, le-ltb}
-use Rattle.reduction.specs.Numbers.{between}
-use Rattle.reduction.proofs.Tests.{limits}
+use Rattle.member.specs.Numbers.{between}
+use Rattle.member.proofs.Tests.{limits}
 use Rattle.text.specs.Text.{bytesOf, newline, ended}
 use Rattle.column.specs.declared.Line.{Line}
 use Rattle.column.specs.declared.Member.{Member}
@@ -20,14 +20,13 @@ use Rattle.column.proofs.Lines.{lines-length}
 use Rattle.column.proofs.Columns.{column-lines}
 use Rattle.column.proofs.Reach.{no-condition, reached-is, sound}
 use Rattle.column.proofs.InTurn.{AcceptedInTurn, none, more, reached-in-turn}
-use Rattle.effects.specs.Effect.{magnitudeOf, limit}
+use Rattle.newtons.specs.Effect.{magnitudeOf, limit}
 use Rattle.form.specs.declared.Due.the-variants as D
 use Rattle.form.specs.declared.Form.the-variants as F
 use Rattle.form.specs.Form.{floorForm, effectForm, formOf}
 use Rattle.sheet.specs.declared.Sheet.{Sheet}
-use Rattle.sheet.specs.declared.steps.Draft.{Draft}
 use Rattle.sheet.specs.Lines.{line, split}
-use Rattle.sheet.specs.Sheet.{unread, isComplete, dueAfter, withEffect, withColumn, withNext, ifTaken, effectNumber, valued, lineTaken, ifRead, readFrom, readSheet}
+use Rattle.sheet.specs.Sheet.{Draft, unread, isComplete, dueAfter, withEffect, withColumn, withNext, ifTaken, effectNumber, valued, lineTaken, ifRead, readFrom, readSheet}
 use Rattle.sheet.specs.Keeps.{Keeps}
 use Rattle.written.specs.Written.{memberText, floorText, effectText, floorTexts, beforeDead, beforeRoof, beforeSnow, beforeRain, beforeWind, beforeQuake, written}
 use Rattle.written.specs.Exactly.{newlines, readAs, WrittenIsRead}

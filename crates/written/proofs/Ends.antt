@@ -12,15 +12,13 @@ use borrow.Author.Tests.{eqb-true, eqb-false, lt-ltb, le-ltb, ltb-true, ltb-fals
 use Rattle.text.specs.Text.{newline, ended}
 use Rattle.form.specs.declared.Due.{Due}
 use Rattle.sheet.specs.declared.Sheet.{Sheet}
-use Rattle.sheet.specs.declared.steps.Draft.{Draft}
-use Rattle.sheet.specs.declared.steps.Taken.{Taken}
 use Rattle.sheet.specs.declared.Reading.{Reading}
 use Rattle.sheet.specs.Lines.{Lines, line, rest, split}
-use Rattle.sheet.specs.Sheet.{unread, isComplete, lineTaken, reading, ifRead, readFrom, readSheet}
+use Rattle.sheet.specs.Sheet.{Draft, Taken, unread, isComplete, lineTaken, reading, ifRead, readFrom, readSheet}
 use Rattle.sheet.specs.Keeps.{KeepsSoFar}
 use Rattle.sheet.proofs.Kept.{unread-kept, line-kept, nothing-due, read-keeps}
 use Rattle.written.specs.Written.{written, writtenBefore}
-use Rattle.written.specs.Exactly.{newlines, Fault, missing, unended, refused, Stops, ReadIsWritten, RefusedAtFirst}
+use Rattle.written.specs.Exactly.{newlines, Fault, missing, unended, refused, StopsAtFault, ReadIsWritten, RefusedAtFirst}
 use Rattle.written.proofs.Sizes.{newlines-append}
 use Rattle.sheet.proofs.Bytes.{bytes, bytes-split}
 use Rattle.written.proofs.Splits.{Clean, clean-line, clean-rest, clean-split}
@@ -29,7 +27,7 @@ use Rattle.written.proofs.Steps.{soFar, line-adds}
 -- how a reading ends
 data Ending (text : List ℕ) (r : Reading) : Type 0 where
   whole : r .number ≡ 0 → text ≡ written (r .sheet) → Ending text r
-  stops : (r .number ≡ 0 → ⊥) → Stops text r → Ending text r
+  stops : (r .number ≡ 0 → ⊥) → StopsAtFault text r → Ending text r
 
 -- reading has come to a place of the text: what is written so far stands before it, and this from it on
 record Come (text : List ℕ) (k at : ℕ) (d : Draft) (left : List ℕ) : Type 0 where
@@ -111,7 +109,7 @@ too-long text h = rw (lt-ltb 32768 (length text) h)
 pub refused-at-first : RefusedAtFirst
 refused-at-first = record { stops = λ text h e. go text e (ends text h); long = too-long }
   where
-    go : (text : List ℕ) → (readSheet text .number ≡ 0 → ⊥) → Ending text (readSheet text) → Stops text (readSheet text)
+    go : (text : List ℕ) → (readSheet text .number ≡ 0 → ⊥) → Ending text (readSheet text) → StopsAtFault text (readSheet text)
     go text e (whole h w) = absurd (e h)
     go text e (stops h s) = s
 

@@ -12,7 +12,7 @@ use lib.IntN.{ℤ, pos, negsuc, natAbs}
 use borrow.Author.Tests.{eq-eqb, ne-eqb, eqb-true, eqb-false}
 use Rattle.text.specs.Text.{bytesOf, minus, decimal, signedDecimal}
 use Rattle.text.proofs.Decimal.{length-some, decimal-all}
-use Rattle.effects.specs.Effect.{signed}
+use Rattle.newtons.specs.Effect.{signed}
 use Rattle.column.specs.declared.Line.{Line}
 use Rattle.column.specs.Line.{line}
 use Rattle.form.specs.declared.number.Number.{Number}

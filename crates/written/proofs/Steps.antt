@@ -19,8 +19,7 @@ use Rattle.form.specs.Number.{begins}
 use Rattle.form.specs.Form.{memberForm, floorForm, effectForm, formOf}
 use Rattle.form.proofs.Only.{of-only, member-only, floor-only, effect-only}
 use Rattle.sheet.specs.declared.Sheet.{Sheet}
-use Rattle.sheet.specs.declared.steps.Draft.{Draft}
-use Rattle.sheet.specs.Sheet.{dueAfter, withEffect, withNext, ifTaken, valued, lineTaken}
+use Rattle.sheet.specs.Sheet.{Draft, dueAfter, withEffect, withNext, ifTaken, valued, lineTaken}
 use Rattle.written.specs.Written.{memberText, floorText, effectText, floorTexts, beforeDead, beforeRoof, beforeSnow, beforeRain, beforeWind, beforeQuake, written, writtenBefore}
 use Rattle.written.proofs.Forms.{member-from, floor-from, effect-from}
 

@@ -1,4 +1,4 @@
--- Demand 2: a sheet is read exactly when it has the form and keeps the limits. And what a refusal says.
+-- Paper 01, "The sheet" and "Numbers by the place of checking": a sheet is read exactly when it has the form and keeps the limits; and what a refusal says.
 -- Assumes nothing.
 use mathlib.Core.Path.{_≡_}
 use mathlib.Core.Bool.{false, cond}
@@ -10,9 +10,8 @@ use Rattle.text.specs.Text.{newline, ended}
 use Rattle.column.specs.Column.{linesOf}
 use Rattle.form.specs.declared.Due.{Due}
 use Rattle.sheet.specs.declared.Sheet.{Sheet}
-use Rattle.sheet.specs.declared.steps.Draft.{Draft}
 use Rattle.sheet.specs.declared.Reading.{Reading}
-use Rattle.sheet.specs.Sheet.{unread, isComplete, lineTaken, reading, readSheet}
+use Rattle.sheet.specs.Sheet.{Draft, unread, isComplete, lineTaken, reading, readSheet}
 use Rattle.sheet.specs.Keeps.{Keeps, KeepsSoFar}
 use Rattle.written.specs.Written.{written, writtenBefore}
 
@@ -27,12 +26,12 @@ readAs s =
       sheet = s;
     }
 
--- Demand 2: a text that is read is the text of the sheet that was read, which keeps the limits
+-- 01, Numbers by the place of checking: a number is given "where its condition is the first to hold, and never else"; a text that is read is the text of the sheet that was read, which keeps the limits
 pub record ReadIsWritten : Type 0 where
   pub text : (text : List ℕ) → readSheet text .number ≡ 0 → text ≡ written (readSheet text .sheet)
   pub keeps : (text : List ℕ) → readSheet text .number ≡ 0 → Keeps (readSheet text .sheet)
 
--- Demand 2: and the text of a sheet that keeps the limits is read as that sheet
+-- 01, The sheet: and the text of a sheet that keeps the limits is read as that sheet
 abbrev pub WrittenIsRead : Type 0
 WrittenIsRead = (s : Sheet) → Keeps s → readSheet (written s) ≡ readAs s
 
@@ -52,7 +51,7 @@ pub data Fault (d : Draft) (rest : List ℕ) (r : Reading) : Type 0 where
 
 -- 01, The sheet: reading stops at the first fault. The lines before it were taken: they are the lines, as written, of the
 -- sheet so far, which keeps the limits; K counts them and one more
-pub record Stops (text : List ℕ) (r : Reading) : Type 0 where
+pub record StopsAtFault (text : List ℕ) (r : Reading) : Type 0 where
   pub due : Due
   pub kept : KeepsSoFar due (r .sheet)
   pub inside : r .start ≤ length text
@@ -62,5 +61,5 @@ pub record Stops (text : List ℕ) (r : Reading) : Type 0 where
 
 -- 01, Numbers by the place of checking: each refusal is that of the first fault; 11, "length first", has K = 0 and the empty part at the start
 pub record RefusedAtFirst : Type 0 where
-  pub stops : (text : List ℕ) → length text ≤ 32768 → (readSheet text .number ≡ 0 → ⊥) → Stops text (readSheet text)
+  pub stops : (text : List ℕ) → length text ≤ 32768 → (readSheet text .number ≡ 0 → ⊥) → StopsAtFault text (readSheet text)
   pub long : (text : List ℕ) → 32768 < length text → readSheet text ≡ reading 11 0 0 0 unread

@@ -9,11 +9,12 @@ use lib.Ieee.{Float}
 use lib.ListN.{length, getD, take, drop}
 use Rattle.effects.specs.declared.LoadEffect.{LoadEffect}
 use Rattle.refusal.specs.Told.{gives, refused}
-use Rattle.effects.specs.Effect.{limit, effectOf, saidEffect}
+use Rattle.newtons.specs.Effect.{limit, effectOf, saidEffect}
 use Rattle.effects.specs.Check.{loadEffect, checkedFrom, checkedOf, saidChecked}
 use Rattle.effects.specs.Fit.{Seven}
-use Rattle.effects.proofs.Limits.{effect-within}
-use Rattle.effects.proofs.Numbers.{kept, seven-zeros, seven-set}
+use Rattle.newtons.proofs.Limits.{effect-within}
+use Rattle.newtons.proofs.Numbers.{kept}
+use Rattle.effects.proofs.Numbers.{seven-zeros, seven-set}
 use Rattle.effects.proofs.Checks.{listed-length, check-taken, check-refused, check-end}
 use borrow.Author.Needs.{needs}
 use Rattle.effects.proofs.check.Statement.{statement}

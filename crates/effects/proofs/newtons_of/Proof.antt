@@ -7,7 +7,8 @@ use lib.ListN.{getD}
 use mir.Syntax.{w64}
 use mir.Val.{toZ, ofZ}
 use Rattle.effects.specs.Check.{newtonsOf}
-use Rattle.effects.proofs.Numbers.{kept, seven-is}
+use Rattle.newtons.proofs.Numbers.{kept}
+use Rattle.effects.proofs.Numbers.{seven-is}
 use borrow.Author.Needs.{needs}
 use Rattle.effects.proofs.newtons_of.Statement.{statement}
 use Rattle.effects.proofs.newtons_of.Tie as tie

@@ -7,8 +7,8 @@ use mir.Syntax.{w64}
 use mir.Val.{SFits, toZ, ofZ}
 use mir.ValLaws.{toZ-pos}
 use borrow.Author.Tests.{eq-eqb, ne-eqb, not-true, not-false}
-use Rattle.effects.specs.Effect.{signed}
-use Rattle.effects.proofs.Numbers.{size-neg, small-fits, kept}
+use Rattle.newtons.specs.Effect.{signed}
+use Rattle.newtons.proofs.Numbers.{size-neg, small-fits, kept}
 use Rattle.form.specs.declared.Form.the-variants.{Effect}
 use Rattle.form.specs.Form.{withNumber, effectEnd}
 use Rattle.form.proofs.Steps.{small-is}

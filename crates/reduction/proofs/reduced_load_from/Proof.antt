@@ -1,69 +1,89 @@
--- `reduction::reduced_load_from` meets its contract: each way out picks its case of the definition. Assumes nothing.
-use mathlib.Core.Path.{_≡_, subst⁻¹}
-use mathlib.Core.Bool.{true}
-use Rattle.refusal.specs.Refusal.{numberOf}
+-- `reduction::reduced_load_from` meets its contract: a formula line with a load is within its limits. Assumes nothing.
+use mathlib.Core.Path.{_≡_, sym, _∙_, subst⁻¹}
+use mathlib.Core.Bool.{true, false≢true}
+use Prim.Native.Nat.{_≤_}
+use native.Mathlib.Omega.{arith}
 use Rattle.refusal.specs.Said.{said}
 use Rattle.reduction.specs.declared.share.Share.{Share}
-use Rattle.reduction.specs.Numbers.{between}
+use Rattle.member.specs.Line.{isFormula}
+use Rattle.member.specs.Numbers.{between}
+use Rattle.reduction.specs.Share.{shareOf}
 use Rattle.reduction.specs.Reduced.{reducedOf}
 use Rattle.reduction.specs.Fit.{Fit}
-use Rattle.reduction.proofs.Tests.{passed, failed, limits}
-use Rattle.reduction.proofs.Fits.{share-fits}
+use Rattle.member.proofs.Tests.{passed, failed, limits, in-limits}
+use Rattle.reduction.proofs.Fits.{formula-class, formula-load, share-fits}
+use Rattle.reduction.proofs.Twentieths.{share-formula}
 use borrow.Author.Needs.{needs}
 use Rattle.reduction.proofs.reduced_load_from.Statement.{statement}
 use Rattle.reduction.proofs.reduced_load_from.Tie as tie
 
--- the class and the load are within their limits, so the share that is at hand fits
-class-known : (c : tie.Else1) → between 1 3 (c .before .before .args .class) ≡ true
-class-known c = passed (c .before .is-between .ensures) (c .if1 .left)
+-- the line at hand is a formula line, and its class and load are within their limits
+formula : (c : tie.Else2) → let at = c .before .before .before .args in isFormula (at .load) (at .class) ≡ true
+formula c = passed (c .before .before .is-formula .ensures) (c .before .if1 .left)
 
-load-known : (c : tie.Else2) → between 1 50000 (c .before .before .before .before .args .load) ≡ true
-load-known c = passed (c .before .is-between2 .ensures) (c .if2 .left)
+class-known : (c : tie.Else2) → between 1 3 (c .before .before .before .args .class) ≡ true
+class-known c =
+    let at = c .before .before .before .args in
+    let one = formula-class (at .load) (at .class) (formula c) in
+    in-limits 1 3 (at .class) (omega (arith, one)) (omega (arith, one))
 
-fits : (c : tie.After-share-of) → Fit (c .share-of .result) (c .before .before .before .before .before .args .load)
-fits c =
-    let at = c .before .before .before .before .before .args in
-    subst⁻¹ (λ (s : Share). Fit s (at .load)) (c .share-of .ensures)
-    (share-fits (at .load) (at .class) (at .floors) (at .x) (limits 1 50000 (at .load) (load-known (c .before)) .1))
+load-known : (c : tie.Else2) → between 1 50000 (c .before .before .before .args .load) ≡ true
+load-known c =
+    let at = c .before .before .before .args in
+    let some : 1 ≤ at .load = omega (arith, c .if2 .left) in
+    let most : at .load ≤ 50000 = omega (arith, formula-load (at .load) (at .class) (formula c)) in
+    in-limits 1 50000 (at .load) some most
 
-is-between-requires : tie.Need-is-between-requires
-is-between-requires c κs = search needs
+-- its share is the formula's, and fits
+share-known : (c : tie.After-formula-share) → let at = c .before .before .before .before .args in c .formula-share .result ≡ shareOf (at .load) (at .class) (at .floors) (at .x)
+share-known c =
+    let at = c .before .before .before .before .args in
+    c .formula-share .ensures ∙ sym (share-formula (at .load) (at .class) (at .floors) (at .x) (formula (c .before)))
+
+is-formula-requires : tie.Need-is-formula-requires
+is-formula-requires c κs = search needs
+
+other-load-requires : tie.Need-other-load-requires
+other-load-requires c κs = λ h. absurd (false≢true (sym (failed (c .before .is-formula .ensures) (c .if1 .taken)) ∙ h))
 
 returns : tie.Need-returns
-unfolding said numberOf reducedOf
-returns c = rw (failed (c .before .is-between .ensures) (c .if1 .taken))
+returns c = search needs
 
-is-between-requires-2 : tie.Need-is-between-requires-2
-is-between-requires-2 c κs = search needs
+other-load-requires-2 : tie.Need-other-load-requires-2
+other-load-requires-2 c κs = λ h. c .if2 .taken
 
 returns-2 : tie.Need-returns-2
-unfolding said numberOf reducedOf
-returns-2 c = rw (class-known (c .before .before), failed (c .before .is-between2 .ensures) (c .if2 .taken))
+returns-2 c = search needs
 
-share-of-requires : tie.Need-share-of-requires
-share-of-requires c κs = search needs
+formula-share-requires : tie.Need-formula-share-requires
+formula-share-requires c κs = search needs
 
 scale-from-requires : tie.Need-scale-from-requires
 scale-from-requires c κs = search needs
 
 rounded-requires : tie.Need-rounded-requires
-rounded-requires c κs = (fits (c .before), c .scale-from .ensures)
+rounded-requires c κs =
+    let f = c .before in
+    let at = f .before .before .before .before .args in
+    let fits = share-fits (at .load) (at .class) (at .floors) (at .x) (limits 1 50000 (at .load) (load-known (f .before)) .1) in
+    (subst⁻¹ (λ (s : Share). Fit s (at .load)) (share-known f) fits, c .scale-from .ensures)
 
 returns-3 : tie.Need-returns-3
 unfolding said reducedOf
 returns-3 c =
-    let s = c .before .before .before in
-    rw (class-known (s .before .before), load-known s, c .rounded .ensures, c .before .before .share-of .ensures)
+    let f = c .before .before in
+    rw (class-known (f .before), load-known (f .before), c .rounded .ensures, share-known f)
 
 pub reduced-load-from-spec : {M : Type 1} → statement M
 reduced-load-from-spec =
     tie.close
     (tie.spec
-    is-between-requires
+    is-formula-requires
+    other-load-requires
     returns
-    is-between-requires-2
+    other-load-requires-2
     returns-2
-    share-of-requires
+    formula-share-requires
     scale-from-requires
     rounded-requires
     returns-3)

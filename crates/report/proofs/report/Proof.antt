@@ -1,4 +1,4 @@
--- `report::report` meets its contract: what the reading prints stands at the start of the buffer. Assumes nothing.
+-- `report::report` meets its contract: what was read is printed at the start of the buffer. Assumes nothing.
 use mathlib.Core.Path.{sym, _∙_, ap, subst}
 use Prim.Native.Nat.{_≤_}
 use native.Mathlib.Nat.{le-trans, zero-add}
@@ -20,7 +20,7 @@ unfolding reportOf
 whole c =
     let s = c .before .before .before .before in
     let call = c .put-reading in
-    subst (λ (r : Reading). Put (s .args .out .now) 0 (printed r) (call .last .0) (call .result)) (c .before .before .read .ensures .0) (call .ensures .0)
+    subst (λ (r : Reading). Put (s .args .out .now) 0 (printed r) (call .last .0) (call .result)) (c .before .read .ensures .0) (call .ensures .0)
 
 -- and the buffer has room for it
 enough : (c : tie.After-put-reading) → c .put-reading .result ≤ length (c .before .before .before .before .args .out .now)

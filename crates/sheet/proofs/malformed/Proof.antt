@@ -13,7 +13,7 @@ stopped-requires c κs = search needs
 
 returns : tie.Need-returns
 unfolding numberOf
-returns c = c .stopped .ensures ∙ rw (c .before .number .ensures)
+returns c = λ places. c .stopped .ensures places ∙ rw (c .before .number .ensures)
 
 pub malformed-spec : {M : Type 1} → statement M
 malformed-spec = tie.close (tie.spec number-requires stopped-requires returns)

@@ -5,8 +5,8 @@ use native.Mathlib.Omega.{arith}
 use lib.Dec.{leb, ltb}
 use borrow.Author.Tests.{le-leb, lt-leb, lt-ltb, le-ltb}
 use Rattle.refusal.specs.Refusal.{numberOf}
-use Rattle.reduction.specs.Numbers.{between}
-use Rattle.reduction.proofs.Tests.{passed, failed}
+use Rattle.member.specs.Numbers.{between}
+use Rattle.member.proofs.Tests.{passed, failed}
 use Rattle.column.specs.Accepted.{firstCondition}
 use Rattle.column.specs.Column.{verdictNumber}
 use borrow.Author.Needs.{needs}
@@ -14,8 +14,8 @@ use Rattle.column.proofs.conditions.verdict_of.Statement.{statement}
 use Rattle.column.proofs.conditions.verdict_of.Tie as tie
 
 -- what each test that was passed says
-room : (c : tie.Else1) → leb 256 (c .before .args .held) ≡ false
-room c = lt-leb 256 (c .before .args .held) (omega arith)
+room : (c : tie.Else1) → leb 256 (c .before .args .count) ≡ false
+room c = lt-leb 256 (c .before .args .count) (omega arith)
 
 floor-known : (c : tie.Else2) → between 1 64 (c .before .before .before .args .line .floor) ≡ true
 floor-known c = passed (c .before .is-between .ensures) (c .if2 .left)
@@ -33,18 +33,18 @@ load-known c = passed (c .before .is-between3 .ensures) (c .if5 .left)
 
 returns : tie.Need-returns
 unfolding verdictNumber numberOf firstCondition
-returns c = λ m. rw (le-leb 256 (c .before .args .held) (omega arith))
+returns c = rw (le-leb 256 (c .before .args .count) (omega arith))
 
 is-between-requires : tie.Need-is-between-requires
 is-between-requires c κs = search needs
 
 returns-2 : tie.Need-returns-2
 unfolding verdictNumber numberOf firstCondition
-returns-2 c = λ m. rw (room (c .before .before), failed (c .before .is-between .ensures) (c .if2 .taken))
+returns-2 c = rw (room (c .before .before), failed (c .before .is-between .ensures) (c .if2 .taken))
 
 returns-3 : tie.Need-returns-3
 unfolding verdictNumber numberOf firstCondition
-returns-3 c = λ m.
+returns-3 c =
     rw (room (c .before .before .before .before), floor-known (c .before .before), lt-ltb (c .before .before .before .before .before .args .line .floor) (c .before .before .before .before .before .args .last) (omega arith))
 
 is-between-requires-2 : tie.Need-is-between-requires-2
@@ -52,7 +52,7 @@ is-between-requires-2 c κs = search needs
 
 returns-4 : tie.Need-returns-4
 unfolding verdictNumber numberOf firstCondition
-returns-4 c = λ m.
+returns-4 c =
     let d = c .before .before in
     rw (room (d .before .before .before .before), floor-known (d .before .before), not-above d, failed (c .before .is-between2 .ensures) (c .if4 .taken))
 
@@ -61,7 +61,7 @@ is-between-requires-3 c κs = search needs
 
 returns-5 : tie.Need-returns-5
 unfolding verdictNumber numberOf firstCondition
-returns-5 c = λ m.
+returns-5 c =
     let e = c .before .before in
     let d = e .before .before in
     rw (room (d .before .before .before .before), floor-known (d .before .before), not-above d, class-known e, failed (c .before .is-between3 .ensures) (c .if5 .taken))
@@ -71,7 +71,7 @@ is-between-requires-4 c κs = search needs
 
 returns-6 : tie.Need-returns-6
 unfolding verdictNumber numberOf firstCondition
-returns-6 c = λ m.
+returns-6 c =
     let f = c .before .before in
     let e = f .before .before in
     let d = e .before .before in
@@ -79,7 +79,7 @@ returns-6 c = λ m.
 
 returns-7 : tie.Need-returns-7
 unfolding verdictNumber numberOf firstCondition
-returns-7 c = λ m.
+returns-7 c =
     let f = c .before .before in
     let e = f .before .before in
     let d = e .before .before in

@@ -1,6 +1,6 @@
 -- `combination::search::governing_of` meets its contract: before index i, searching the sums from i on gives what the whole search gives.
 -- Assumes nothing.
-use mathlib.Core.Path.{_≡_, sym, _∙_, ap, subst}
+use mathlib.Core.Path.{_≡_, sym, _∙_, ap, ap₂, subst}
 use mathlib.Core.Bool.{Bool}
 use mathlib.Core.List.{List, []}
 use Prim.Native.Nat.{ℕ, suc, _-_, _^_, _≤_, _<_}
@@ -10,12 +10,14 @@ use lib.ListN.{length, getD, drop}
 use mir.Syntax.{w64}
 use mir.Val.{SFits, toZ, ofZ}
 use mir.ValLaws.{toZ-ofZ}
-use Rattle.effects.specs.Effect.{limit}
+use Rattle.newtons.specs.Effect.{limit}
 use Rattle.effects.specs.Fit.{Seven}
+use Rattle.combination.specs.declared.Governing.{Governing}
+use Rattle.combination.specs.declared.GoverningRow.{GoverningRow}
 use Rattle.combination.specs.declared.search.Best.{Best}
 use Rattle.combination.specs.Factors.{factors}
 use Rattle.combination.specs.Governing.{sumOf, sums, greater, less, bestFrom, best}
-use Rattle.combination.specs.Combine.{governing}
+use Rattle.combination.specs.Combine.{rowOf, governing}
 use Rattle.combination.proofs.Table.{row-fits, sums-length, sum-at, sums-small}
 use Rattle.combination.proofs.Governs.{Order, best-end, best-first, best-turn, less-order, greater-order, best-small}
 use borrow.Author.Needs.{needs}
@@ -130,12 +132,9 @@ returns : tie.Need-returns Inv-loop μ-loop
 unfolding governing
 returns c =
     let d = c .before .before in
-    let e = d .before .before .before .before .listed-newtons .ensures in
-    let g = c .before .row-of .ensures in
-    let l = c .row-of2 .ensures in
-    let p = greatest-is d in
-    let q = least-is d in
-    cc
+    let rows : GoverningRow → GoverningRow → Governing = λ g l. record { greatest = g; least = l } in
+    ap₂ rows (c .before .row-of .ensures ∙ ap rowOf (greatest-is d)) (c .row-of2 .ensures ∙ ap rowOf (least-is d))
+    ∙ ap governing (d .before .before .before .before .listed-newtons .ensures)
 
 pub governing-of-spec : {M : Type 1} → statement M
 governing-of-spec =

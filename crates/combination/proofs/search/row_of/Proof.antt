@@ -5,7 +5,7 @@ use lib.IntN.{ℤ}
 use lib.Ieee.{binary64, inFloat}
 use mir.Syntax.{w64}
 use mir.ValLaws.{toZ-ofZ}
-use Rattle.effects.proofs.Values.{in-float}
+use Rattle.newtons.proofs.Values.{in-float}
 use borrow.Author.Needs.{needs}
 use Rattle.combination.proofs.search.row_of.Statement.{statement}
 use Rattle.combination.proofs.search.row_of.Tie as tie

@@ -8,8 +8,8 @@ use lib.ListN.{getD, drop}
 use mir.Syntax.{w64}
 use mir.Val.{toZ, ofZ}
 use Rattle.combination.specs.Governing.{sumOf}
-use Rattle.effects.proofs.Numbers.{small-fits, kept}
-use Rattle.combination.proofs.Sums.{mostProduct, mostSum, size-product, sum-small, sum-from, sum-end}
+use Rattle.newtons.proofs.Numbers.{small-fits, kept}
+use Rattle.combination.proofs.Sums.{factor-kept, mostProduct, mostSum, size-product, sum-small, sum-from, sum-end}
 use borrow.Author.Needs.{needs}
 use Rattle.combination.proofs.search.sum_of.Statement.{statement}
 use Rattle.combination.proofs.search.sum_of.Tie as tie
@@ -27,28 +27,30 @@ loop-holds c = (omega arith, sym (sum-end (c .args .t1) (c .args .t2) (c .pre .0
 sub-j : tie.Need-sub-j Inv-loop μ-loop
 sub-j c = omega arith
 
+array-copy-out-wide : tie.Need-array-copy-out-wide Inv-loop μ-loop
+array-copy-out-wide c = omega arith
+
+wide-requires : tie.Need-wide-requires Inv-loop μ-loop
+wide-requires c κs =
+    let each = c .before .before .before .pre .0 .each (c .before .before .loop .j - 1) in
+    rw (factor-kept each) each
+
 mul-sum : tie.Need-mul-sum Inv-loop μ-loop
 mul-sum c = search needs
 
 array-copy-out-sum : tie.Need-array-copy-out-sum Inv-loop μ-loop
 array-copy-out-sum c = omega arith
 
-mul-sum-2 : tie.Need-mul-sum-2 Inv-loop μ-loop
-mul-sum-2 c = search needs
-
-array-copy-out-sum-2 : tie.Need-array-copy-out-sum-2 Inv-loop μ-loop
-array-copy-out-sum-2 c = omega arith
-
 -- a turn of the loop: j is the index, f its factor, x its effect
-module _ (c : tie.After-sum2 Inv-loop μ-loop) where
+module _ (c : tie.After-sum Inv-loop μ-loop) where
   abbrev start : tie.Start Inv-loop μ-loop
-  start = c .before .before .before .before
+  start = c .before .before .before .before .before
 
   abbrev before : ℤ
-  before = toZ w64 (c .before .before .before .loop .sum)
+  before = toZ w64 (c .before .before .before .before .loop .sum)
 
   abbrev j : ℕ
-  j = c .before .before .before .loop .j - 1
+  j = c .before .before .before .before .loop .j - 1
 
   abbrev f : ℤ
   f = getD (start .args .t1) j (pos 0)
@@ -56,8 +58,11 @@ module _ (c : tie.After-sum2 Inv-loop μ-loop) where
   abbrev x : ℤ
   x = getD (start .args .t2) j (pos 0)
 
-  f-kept : toZ w64 (ofZ w64 f) ≡ f
-  f-kept = kept (start .pre .0 .each j) (lit< tt)
+  f-kept : toZ w64 (ofZ w64 (c .before .wide .result)) ≡ f
+  f-kept =
+      let each = start .pre .0 .each j in
+      let is : c .before .wide .result ≡ f = c .before .wide .ensures ∙ factor-kept each in
+      ap (λ (z : ℤ). toZ w64 (ofZ w64 z)) is ∙ kept each (lit< tt)
 
   x-kept : toZ w64 (ofZ w64 x) ≡ x
   x-kept = kept (start .pre .1 .each j) (lit< tt)
@@ -70,8 +75,9 @@ module _ (c : tie.After-sum2 Inv-loop μ-loop) where
 
   sum-is : f *ℤ x +ℤ before ≡ sumOf (drop j (start .args .t1)) (drop j (start .args .t2))
   sum-is =
-      let k : c .before .before .before .loop .j ≡ suc j = omega arith in
-      ap (λ (z : ℤ). f *ℤ x +ℤ z) (c .before .before .before .loop .inv .1 ∙ ap (λ (i : ℕ). sumOf (drop i (start .args .t1)) (drop i (start .args .t2))) k)
+      let loop = c .before .before .before .before .loop in
+      let k : loop .j ≡ suc j = omega arith in
+      ap (λ (z : ℤ). f *ℤ x +ℤ z) (loop .inv .1 ∙ ap (λ (i : ℕ). sumOf (drop i (start .args .t1)) (drop i (start .args .t2))) k)
       ∙ sym (sum-from j (start .args .t1) (start .args .t2) (omega (arith, start .pre .0 .count)) (omega (arith, start .pre .1 .count)))
 
   size : natAbs (f *ℤ x +ℤ before) ≤ mostSum
@@ -80,8 +86,8 @@ module _ (c : tie.After-sum2 Inv-loop μ-loop) where
   sum-kept : toZ w64 (ofZ w64 (f *ℤ x +ℤ before)) ≡ f *ℤ x +ℤ before
   sum-kept = kept size (lit< tt)
 
-mul-sum-3 : tie.Need-mul-sum-3 Inv-loop μ-loop
-mul-sum-3 c = simp (f-kept c, x-kept c) (small-fits (product c) (lit< tt))
+mul-sum-2 : tie.Need-mul-sum-2 Inv-loop μ-loop
+mul-sum-2 c = simp (f-kept c, x-kept c) (small-fits (product c) (lit< tt))
 
 add-sum : tie.Need-add-sum Inv-loop μ-loop
 add-sum c = simp (f-kept c, x-kept c, product-kept c) (small-fits (size c) (lit< tt))
@@ -105,11 +111,11 @@ sum-of-spec =
     μ-loop
     loop-holds
     sub-j
+    array-copy-out-wide
+    wide-requires
     mul-sum
     array-copy-out-sum
     mul-sum-2
-    array-copy-out-sum-2
-    mul-sum-3
     add-sum
     loop-less
     loop-again

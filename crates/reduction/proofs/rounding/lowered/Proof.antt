@@ -1,17 +1,18 @@
 -- `reduction::rounding::lowered` meets its contract: r is never below the reduced load. Assumes nothing.
 use Prim.Native.Nat.{_≤_}
 use native.Mathlib.Omega.{arith}
+use Rattle.reduction.specs.declared.share.Share.the-variants.{Root}
 use Rattle.reduction.specs.Reduced.{reduced}
-use Rattle.reduction.proofs.Tests.{passed, failed}
+use Rattle.member.proofs.Tests.{passed, failed}
 use Rattle.reduction.proofs.Fits.{fit-above, fit-at-most}
 use Rattle.reduction.proofs.rounding.lowered.Statement.{statement}
 use Rattle.reduction.proofs.rounding.lowered.Tie as tie
 
 abbrev Inv-loop : tie.InvT-loop
-Inv-loop share load from r₀ r = (reduced share load ≤ r) × (r ≤ load)
+Inv-loop x load from r₀ r = (reduced (Root x) load ≤ r) × (r ≤ load)
 
 abbrev μ-loop : tie.MeasureT-loop
-μ-loop share load from r₀ r = r
+μ-loop x load from r₀ r = r
 
 loop-holds : tie.Need-loop-holds Inv-loop μ-loop
 loop-holds c = omega arith

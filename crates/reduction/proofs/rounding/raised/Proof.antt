@@ -2,20 +2,21 @@
 -- Assumes nothing.
 use Prim.Native.Nat.{_-_, _≤_, _<_}
 use native.Mathlib.Omega.{arith}
+use Rattle.reduction.specs.declared.share.Share.the-variants.{Root}
 use Rattle.reduction.specs.Reduced.{reduced}
-use Rattle.reduction.proofs.Tests.{passed, failed}
+use Rattle.member.proofs.Tests.{passed, failed}
 use Rattle.reduction.proofs.Fits.{fit-load, fit-above, fit-at-most, fit-whole}
 use Rattle.reduction.proofs.rounding.raised.Statement.{statement}
 use Rattle.reduction.proofs.rounding.raised.Tie as tie
 
 abbrev Inv-loop : tie.InvT-loop
-Inv-loop share load from r₀ r = (r ≤ load) × (load ≤ 50000)
+Inv-loop x load from r₀ r = (r ≤ load) × (load ≤ 50000)
 
 abbrev μ-loop : tie.MeasureT-loop
-μ-loop share load from r₀ r = reduced share load - r
+μ-loop x load from r₀ r = reduced (Root x) load - r
 
 short : (c : tie.Then1 Inv-loop μ-loop)
-    → c .before .before .loop .r < reduced (c .before .before .before .args .share) (c .before .before .before .args .load)
+    → c .before .before .loop .r < reduced (Root (c .before .before .before .args .x)) (c .before .before .before .args .load)
 short c = fit-above (c .before .before .before .pre .0) (failed (c .before .reached .ensures) (c .if1 .taken))
 
 loop-holds : tie.Need-loop-holds Inv-loop μ-loop

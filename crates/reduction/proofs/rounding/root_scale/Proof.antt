@@ -1,63 +1,39 @@
--- `reduction::rounding::root_scale` meets its contract: a step at most halves, so no divisor is 0, and no quotient passes what is divided.
+-- `reduction::rounding::root_scale` meets its contract: the divisor is not 0, and no product passes 64 bits.
 -- Assumes nothing.
-use mathlib.Core.Path.{refl}
-use Prim.Native.Nat.{ℕ, _*_, _/_, _^_, _≤_}
-use native.Mathlib.Nat.{div-le-self, div-le-of-le-mul}
+use Prim.Native.Nat.{_*_, _^_, _≤_}
+use native.Mathlib.Nat.{mul-le-mul, div-le-self}
 use native.Mathlib.Omega.{arith}
-use Rattle.reduction.specs.Estimate.{newton}
 use borrow.Author.Needs.{needs}
 use Rattle.reduction.proofs.rounding.root_scale.Statement.{statement}
 use Rattle.reduction.proofs.rounding.root_scale.Tie as tie
 
-abbrev square : tie.Start → ℕ
-square s = 918527615797559296 / (25 * s .args .x .0)
+-- the divisor, 25 X times the chord
+divisor : (c : tie.After-highest-chord)
+    → (1 ≤ 25 * c .before .args .x .0 * c .highest-chord .result) × (25 * c .before .args .x .0 * c .highest-chord .result ≤ 2320525 * 2 ^ 22)
+divisor c =
+    let low : 1 ≤ 25 * c .before .args .x .0 = omega arith in
+    let high : 25 * c .before .args .x .0 ≤ 2320525 = omega arith in
+    (mul-le-mul low (c .highest-chord .ensures .1), mul-le-mul high (c .highest-chord .ensures .2))
 
--- the first three of Newton's steps
-abbrev a : tie.Start → ℕ
-a s = newton (square s) 1400000
+highest-chord-requires : tie.Need-highest-chord-requires
+highest-chord-requires c κs = search needs
 
-abbrev b : tie.Start → ℕ
-b s = newton (square s) (a s)
+mul-result : tie.Need-mul-result
+mul-result c = search needs
 
-abbrev d : tie.Start → ℕ
-d s = newton (square s) (b s)
-
-sizes : (s : tie.Start)
-    → (square s ≤ 2 ^ 44) × (square s / a s ≤ square s) × (square s / b s ≤ square s) × (square s / d s ≤ square s)
-sizes s =
-    (div-le-of-le-mul (25 * s .args .x .0) (omega arith), div-le-self (square s) (a s), div-le-self (square s) (b s), div-le-self (square s) (d s))
-
-mul-square : tie.Need-mul-square
-mul-square c = search needs
-
-div-square : tie.Need-div-square
-div-square c = search needs
-
-add-a : tie.Need-add-a
-add-a c = omega (arith, sizes (c .before))
-
-div-b : tie.Need-div-b
-div-b c = search needs
-
-add-b : tie.Need-add-b
-add-b c = omega (arith, sizes (c .before))
-
-div-c : tie.Need-div-c
-div-c c = search needs
-
-add-c : tie.Need-add-c
-add-c c = omega (arith, sizes (c .before))
+mul-result-2 : tie.Need-mul-result-2
+mul-result-2 c = omega (arith, divisor (c .before))
 
 div-result : tie.Need-div-result
-div-result c = search needs
+div-result c = omega (arith, divisor (c .before))
 
 add-result : tie.Need-add-result
-add-result c = omega (arith, sizes (c .before))
+add-result c =
+    omega (arith, div-le-self 918527615797559296 (25 * c .before .before .args .x .0 * c .before .highest-chord .result))
 
 returns : tie.Need-returns
-returns c = refl
+returns c = rw (c .before .highest-chord .ensures .0)
 
 pub root-scale-spec : {M : Type 1} → statement M
 root-scale-spec =
-    tie.close
-    (tie.spec mul-square div-square add-a div-b add-b div-c add-c div-result add-result returns)
+    tie.close (tie.spec highest-chord-requires mul-result mul-result-2 div-result add-result returns)

@@ -9,24 +9,24 @@ use Rattle.refusal.specs.Told.{gives}
 use Rattle.effects.specs.Check.{newtonsOf}
 use Rattle.combination.specs.Combine.{governing, combinedOf, saidCombined}
 use Rattle.combination.proofs.Answers.{newtons-combined}
-use Rattle.report.specs.Report.{effectsOf, governingLine, governingLines}
+use Rattle.report.specs.Report.{effectsWith, governingLine, governingLines}
 use Rattle.report.proofs.Lengths.{governing-length, governings-length}
-use Rattle.report.proofs.Live.{seven-within}
+use Rattle.report.proofs.Live.{seven-with}
 use borrow.Author.Needs.{needs}
 use Rattle.report.proofs.takedown.put_governing.Statement.{statement}
 use Rattle.report.proofs.takedown.put_governing.Tie as tie
 
 -- combining gives the rows that govern the sheet's effects
 answered : (c : tie.After-combine)
-    → saidCombined (c .combine .result) ≡ gives (governing (newtonsOf (effectsOf (c .before .before .before .args .sheet))))
+    → saidCombined (c .combine .result) ≡ gives (governing (newtonsOf (effectsWith (c .before .before .before .args .effects) (c .before .before .before .args .live))))
 answered c =
     let s = c .before .before .before in
     c .combine .ensures .0
-    ∙ (ap combinedOf (c .before .doubles-of .ensures) ∙ newtons-combined (effectsOf (s .args .sheet)) (seven-within (s .args .sheet) (s .pre .0)))
+    ∙ (ap combinedOf (c .before .doubles-of .ensures) ∙ newtons-combined (effectsWith (s .args .effects) (s .args .live)) (seven-with (s .args .effects) (s .args .live) (s .pre .0) (s .pre .1)))
 
 given : (c : tie.After-combined)
     → let s = c .before .before .before .before .before in
-    c .combined .given .0 .0 ≡ governing (newtonsOf (effectsOf (s .args .sheet)))
+    c .combined .given .0 .0 ≡ governing (newtonsOf (effectsWith (s .args .effects) (s .args .live)))
 unfolding saidCombined
 given c =
     let e = sym (ap saidCombined (c .combined .given .1)) ∙ answered (c .before .before) in
@@ -41,7 +41,7 @@ room c =
     let g = c .combined .given .0 .0 in
     omega (
       arith,
-      rw (← given c) at (c .before .before .before .before .before .pre .1),
+      rw (← given c) at (c .before .before .before .before .before .pre .2),
       governings-length g,
       governing-length (bytesOf "max=") (g .greatest),
       governing-length (bytesOf "min=") (g .least),

@@ -3,7 +3,7 @@ use mathlib.Core.Path.{_≡_, sym, _∙_, ap}
 use mir.Syntax.{w64}
 use mir.Facts.{toZ-ofZ}
 use Rattle.refusal.specs.Refusal.{numberOf}
-use Rattle.effects.specs.Effect.{within}
+use Rattle.newtons.specs.Effect.{within}
 use Rattle.sheet.specs.Sheet.{effectNumber}
 use borrow.Author.Needs.{needs}
 use Rattle.sheet.proofs.steps.effect_number.Statement.{statement}

@@ -17,7 +17,7 @@ effect-number-requires c κs = search needs
 
 returns : tie.Need-returns
 unfolding valued ifTaken
-returns c = rw (number-is (c .before), ne-eqb _ _ (c .if1 .taken))
+returns c = λ places. rw (number-is (c .before), ne-eqb _ _ (c .if1 .taken))
 
 due-after-requires : tie.Need-due-after-requires
 due-after-requires c κs = search needs
@@ -27,7 +27,7 @@ with-effect-requires c κs = search needs
 
 returns-2 : tie.Need-returns-2
 unfolding valued ifTaken
-returns-2 c = rw (number-is (c .before .before .before .before .before .before) ∙ c .before .before .before .before .before .if1 .left, c .before .due-after .ensures, c .with-effect .ensures, toZ-ofZ {w = w64} (c .before .before .before .before .before .before .before .fits .newtons))
+returns-2 c = λ places. rw (number-is (c .before .before .before .before .before) ∙ c .before .before .before .before .if1 .left, c .before .due-after .ensures, c .with-effect .ensures, toZ-ofZ {w = w64} (c .before .before .before .before .before .before .fits .newtons))
 
 pub take-effect-spec : {M : Type 1} → statement M
 take-effect-spec =

@@ -1,12 +1,13 @@
--- `sheet::steps::take_line` meets its contract: the form, and then the values of each. Assumes nothing.
+-- `sheet::steps::take_line` meets its contract. Assumes nothing.
 use mathlib.Core.Path.{sym, _∙_, ap}
 use lib.IntN.{ℤ}
 use mir.Syntax.{w64}
 use mir.Facts.{toZ-ofZ}
 use Rattle.refusal.specs.Refusal.{numberOf}
-use Rattle.column.specs.Column.{Outcome}
 use Rattle.form.specs.declared.Form.the-variants.{Effect}
-use Rattle.sheet.specs.Sheet.{ifTaken, withOutcome, valued, lineTaken}
+use Rattle.form.proofs.Only.{member-due}
+use Rattle.sheet.specs.Sheet.{ifTaken, valued, lineTaken}
+use Rattle.sheet.specs.InPlace.{draftOf}
 use Rattle.sheet.proofs.Kept.{Later, opened-before}
 use borrow.Author.Needs.{needs}
 use Rattle.sheet.proofs.steps.take_line.Statement.{statement}
@@ -18,21 +19,17 @@ form-of-requires c κs = search needs
 enum-known-form : tie.Need-enum-known-form
 enum-known-form c = search needs
 
-open-requires : tie.Need-open-requires
-open-requires c κs = search needs
-
-with-outcome-requires : tie.Need-with-outcome-requires
-with-outcome-requires c κs = search needs
+open-member-requires : tie.Need-open-member-requires
+open-member-requires c κs = search needs
 
 enum-known-form-2 : tie.Need-enum-known-form-2
 enum-known-form-2 c = search needs
 
-enter-requires : tie.Need-enter-requires
+enter-line-requires : tie.Need-enter-line-requires
 unfolding Later
-enter-requires c κs = opened-before (c .before .before .before .before .before .before .before .args .draft) (c .before .before .before .before .before .before .before .args .line .now) _ (sym (c .before .before .before .before .before .form-of .ensures) ∙ c .before .before .before .form2 .given .1) (c .before .before .before .before .before .before .before .pre) tt
-
-with-outcome-requires-2 : tie.Need-with-outcome-requires-2
-with-outcome-requires-2 c κs = search needs
+enter-line-requires c κs =
+    let s = c .before .before .before .before .before .before in
+    opened-before (draftOf (s .args .progress) (s .args .held .now)) (s .args .line .now) _ (sym (c .before .before .before .before .form-of .ensures) ∙ c .before .before .form2 .given .1) (s .pre) tt
 
 enum-known-form-3 : tie.Need-enum-known-form-3
 enum-known-form-3 c = search needs
@@ -49,24 +46,34 @@ number-requires c κs = search needs
 returns : tie.Need-returns
 unfolding lineTaken valued
 returns c =
-    let d = c .before .before .before .before .before .before .before .args .draft in
-    c .with-outcome .ensures ∙ (ap (λ (o : Outcome). withOutcome d o) (c .before .«open» .ensures .0) ∙ ap (valued d) (sym (c .before .before .before .form .given .1) ∙ c .before .before .before .before .before .form-of .ensures))
+    let f = c .before .before .before .before in
+    let s = f .before .before in
+    let d = draftOf (s .args .progress) (s .args .held .now) in
+    let e = sym (c .before .before .form .given .1) ∙ f .form-of .ensures in
+    c .open-member .ensures (s .args .held .now) (s .pre .before (member-due _ (s .args .line .now) (s .args .progress .due) (sym e))) ∙ ap (valued d) e
 
 returns-2 : tie.Need-returns-2
-unfolding lineTaken valued
+unfolding lineTaken
 returns-2 c =
-    let d = c .before .before .before .before .before .before .before .before .before .args .draft in
-    c .with-outcome2 .ensures ∙ (ap (λ (o : Outcome). withOutcome d o) (c .before .enter .ensures .0) ∙ ap (valued d) (sym (c .before .before .before .before .before .form2 .given .1) ∙ c .before .before .before .before .before .before .before .form-of .ensures))
+    let f = c .before .before .before .before .before in
+    let s = f .before .before in
+    c .enter-line .ensures ∙ ap (valued (draftOf (s .args .progress) (s .args .held .now))) (sym (c .before .before .before .form2 .given .1) ∙ f .form-of .ensures)
 
 returns-3 : tie.Need-returns-3
 unfolding lineTaken
-returns-3 c = let d = c .before .before .before .before .before .before .args .draft in c .take-effect .ensures ∙ (ap (λ (z : ℤ). valued d (Effect z)) (toZ-ofZ {w = w64} (record { sfits = c .before .known-told3 .given .0 .1 })) ∙ ap (valued d) (sym (c .before .before .form3 .given .1) ∙ c .before .before .before .before .form-of .ensures))
+returns-3 c =
+    let f = c .before .before .before .before in
+    let s = f .before .before in
+    let d = draftOf (s .args .progress) (s .args .held .now) in
+    c .take-effect .ensures (s .args .held .now)
+    ∙ (ap (λ (z : ℤ). valued d (Effect z)) (toZ-ofZ {w = w64} (record { sfits = c .before .known-told3 .given .0 .1 })) ∙ ap (valued d) (sym (c .before .before .form3 .given .1) ∙ f .form-of .ensures))
 
 returns-4 : tie.Need-returns-4
 unfolding lineTaken valued ifTaken numberOf
 returns-4 c =
-    let d = c .before .before .before .before .before .args .draft in
-    rw (c .number .ensures) (ap (valued d) (sym (c .before .enum-told .given .1) ∙ c .before .before .before .form-of .ensures))
+    let f = c .before .before .before in
+    let s = f .before .before in
+    rw (c .number .ensures) (ap (valued (draftOf (s .args .progress) (s .args .held .now))) (sym (c .before .enum-told .given .1) ∙ f .form-of .ensures))
 
 pub take-line-spec : {M : Type 1} → statement M
 take-line-spec =
@@ -74,11 +81,9 @@ take-line-spec =
     (tie.spec
     form-of-requires
     enum-known-form
-    open-requires
-    with-outcome-requires
+    open-member-requires
     enum-known-form-2
-    enter-requires
-    with-outcome-requires-2
+    enter-line-requires
     enum-known-form-3
     take-effect-requires
     enum-told

@@ -1,5 +1,5 @@
 -- `trial_combination::print::write_double` meets its contract: the double whose bits are read is no NaN. Assumes nothing.
-use Rattle.effects.proofs.Values.{not-nan}
+use Rattle.newtons.proofs.Values.{not-nan}
 use borrow.Author.Needs.{needs}
 use Rattle.trial_combination.proofs.print.write_double.Statement.{statement}
 use Rattle.trial_combination.proofs.print.write_double.Tie as tie

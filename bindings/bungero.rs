@@ -1,0 +1,429 @@
+// Bungero for programs in Rust: safe calls over the proved static library libexports.a, and in `raw` its C interface.
+//
+// Put this file into a program with `mod bungero;` and link with `-L DIRECTORY -l static=exports` (x86-64 Linux).
+// Refusals come as `Err` with the paper's number, which `refusal` names: a `Refused`, a `RefusedLine` or a `RefusedEffect`.
+#![allow(dead_code, unused_imports)] // few programs use all of the calls
+
+use std::fmt;
+use std::ops::Deref;
+
+pub use raw::{Effects, Governing, GoverningRow, Line, Newtons};
+
+/// The bytes that a report may take, for the buffer that `report_into` writes to; no report is longer than 3,960.
+pub const REPORT_ROOM: usize = 4096;
+
+/// The refusals, with the paper's numbers, in the order of its table.
+pub mod refusal {
+    /// Opening a member: code not 1 to 12.
+    pub const CODE: u64 = 1;
+    /// Entering a line: 256 lines held.
+    pub const FULL: u64 = 2;
+    /// Floor not 1 to 64, or a smaller number than the last accepted line's.
+    pub const FLOOR: u64 = 3;
+    /// Class not 1 to 3.
+    pub const CLASS: u64 = 4;
+    /// Load not 1 to 50,000.
+    pub const LOAD: u64 = 5;
+    /// Area not 1 to 200,000.
+    pub const AREA: u64 = 6;
+    /// Asking at a floor: no accepted line has that floor.
+    pub const NO_SUCH_FLOOR: u64 = 7;
+    /// An effect is not a whole number (NaN and infinities too).
+    pub const NOT_WHOLE: u64 = 8;
+    /// An effect is beyond ±1,000,000,000,000.
+    pub const BEYOND_LIMIT: u64 = 9;
+    /// A line of a sheet has not the form, is missing, or is left over.
+    pub const FORM: u64 = 10;
+    /// A sheet is longer than 32,768 bytes.
+    pub const TOO_LONG: u64 = 11;
+}
+
+/// The C interface as it is: structs in C's layout and the calls. A number is the paper's, 0 where no condition holds.
+pub mod raw {
+    /// A line as a caller lends it: floor 1 to 64, class 1 to 3, load 1 to 50,000 N/m², tributary area 1 to 200,000 dm².
+    #[repr(C)]
+    #[derive(Clone, Copy, Debug, Default, PartialEq, Eq)]
+    pub struct Line {
+        pub floor: u64,
+        pub class: u64,
+        pub load: u64,
+        pub area: u64,
+    }
+
+    /// What is known of a member beside its lines.
+    #[repr(C)]
+    #[derive(Clone, Copy, Debug, PartialEq, Eq)]
+    pub struct Member {
+        pub code: u8,
+    }
+
+    /// A member and its accepted lines, four numbers a line, only ever as these calls gave it.
+    #[repr(C)]
+    #[derive(Clone, Copy, Debug, PartialEq, Eq)]
+    pub struct Column {
+        pub member: Member,
+        pub count: u16,
+        pub held: [u32; 1024],
+    }
+
+    /// What opening gives: the number, and the column.
+    #[repr(C)]
+    #[derive(Clone, Copy, Debug, PartialEq, Eq)]
+    pub struct BungeroOpened {
+        pub number: u64,
+        pub column: Column,
+    }
+
+    /// What entering gives: the number, and how many lines the column then holds.
+    #[repr(C)]
+    #[derive(Clone, Copy, Debug, PartialEq, Eq)]
+    pub struct BungeroEntered {
+        pub number: u64,
+        pub count: u16,
+    }
+
+    /// What asking gives: the number; n, X in dm² and the figure in hundredths of a newton, 0 where refused.
+    #[repr(C)]
+    #[derive(Clone, Copy, Debug, PartialEq, Eq)]
+    pub struct BungeroFigure {
+        pub number: u64,
+        pub floors: u64,
+        pub influence: u64,
+        pub figure: u64,
+    }
+
+    /// What reducing a load gives: the number, and R in N/m², 0 where refused.
+    #[repr(C)]
+    #[derive(Clone, Copy, Debug, PartialEq, Eq)]
+    pub struct BungeroReduced {
+        pub number: u64,
+        pub reduced: u64,
+    }
+
+    /// What the list call gives: the number, the place of the refused line, and n, X and the figure, 0 where refused.
+    #[repr(C)]
+    #[derive(Clone, Copy, Debug, PartialEq, Eq)]
+    pub struct BungeroListed {
+        pub number: u64,
+        pub place: u64,
+        pub floors: u64,
+        pub influence: u64,
+        pub figure: u64,
+    }
+
+    /// The seven effects in newtons, as doubles: D, L, Lr, S, R, W, E.
+    #[repr(C)]
+    #[derive(Clone, Copy, Debug, Default, PartialEq)]
+    pub struct Effects {
+        pub dead: f64,
+        pub live: f64,
+        pub roof: f64,
+        pub snow: f64,
+        pub rain: f64,
+        pub wind: f64,
+        pub quake: f64,
+    }
+
+    /// The seven effects in whole newtons.
+    #[repr(C)]
+    #[derive(Clone, Copy, Debug, Default, PartialEq, Eq)]
+    pub struct Newtons {
+        pub dead: i64,
+        pub live: i64,
+        pub roof: i64,
+        pub snow: i64,
+        pub rain: i64,
+        pub wind: i64,
+        pub quake: i64,
+    }
+
+    /// What checking gives: the number, the place of the refused effect and its double as it came; or the whole newtons.
+    #[repr(C)]
+    #[derive(Clone, Copy, Debug, PartialEq)]
+    pub struct BungeroChecked {
+        pub number: u64,
+        pub place: u64,
+        pub double: f64,
+        pub newtons: Newtons,
+    }
+
+    /// A row of the 25 combinations and its sum, in whole tenths of a newton and as the same number in a double.
+    #[repr(C)]
+    #[derive(Clone, Copy, Debug, PartialEq)]
+    pub struct GoverningRow {
+        pub row: u64,
+        pub tenths: i64,
+        pub double: f64,
+    }
+
+    /// The rows with the greatest and the least sum; of equal sums the lowest row.
+    #[repr(C)]
+    #[derive(Clone, Copy, Debug, PartialEq)]
+    pub struct Governing {
+        pub greatest: GoverningRow,
+        pub least: GoverningRow,
+    }
+
+    /// What combining gives: the number, the place of the refused effect and its double as it came; or the governing rows.
+    #[repr(C)]
+    #[derive(Clone, Copy, Debug, PartialEq)]
+    pub struct BungeroCombined {
+        pub number: u64,
+        pub place: u64,
+        pub double: f64,
+        pub governing: Governing,
+    }
+
+    unsafe extern "C" {
+        /// Opens a member.
+        pub fn bungero_open(code: u64) -> BungeroOpened;
+        /// Enters a line on a column lent in its parts, which must be one that these calls gave; writes to `held` where it is
+        /// accepted, and the column's count is then the one in the answer.
+        pub fn bungero_enter(
+            held: *mut [u32; 1024],
+            member: Member,
+            count: u16,
+            floor: u64,
+            class: u64,
+            load: u64,
+            area: u64,
+        ) -> BungeroEntered;
+        /// Asks at a floor of a column lent in its parts, which must be one that these calls gave.
+        pub fn bungero_ask(held: *const [u32; 1024], member: Member, count: u16, floor: u64) -> BungeroFigure;
+        /// The reduced load R of a line, at n floors and influence area X.
+        pub fn bungero_reduced_load(load: u64, class: u64, floors: u64, influence: u64) -> BungeroReduced;
+        /// The figure of a lent list, `count` records that are only read; `lines` may be null where there are none.
+        pub fn bungero_figure_of(code: u64, lines: *const Line, count: usize, floor: u64) -> BungeroListed;
+        /// The seven effects in whole newtons, or the first that is refused.
+        pub fn bungero_check(effects: Effects) -> BungeroChecked;
+        /// The governing rows of the 25 combinations, or the first effect that is refused.
+        pub fn bungero_combine(effects: Effects) -> BungeroCombined;
+        /// The report of a lent text, `length` bytes that are only read, to the start of `out`; gives how many bytes.
+        /// `text` may be null where there are none. The 4,096 bytes of `out` must not overlap the text.
+        pub fn bungero_report(text: *const u8, length: usize, out: *mut [u8; 4096]) -> usize;
+    }
+}
+
+/// What *takedown* prints for a text.
+#[derive(Clone)]
+pub struct Report {
+    room: [u8; REPORT_ROOM],
+    length: usize,
+}
+
+impl Report {
+    /// The report's own bytes: printable ASCII and newlines.
+    pub fn as_bytes(&self) -> &[u8] {
+        &self.room[..self.length]
+    }
+}
+
+impl Deref for Report {
+    type Target = [u8];
+
+    fn deref(&self) -> &[u8] {
+        self.as_bytes()
+    }
+}
+
+impl AsRef<[u8]> for Report {
+    fn as_ref(&self) -> &[u8] {
+        self.as_bytes()
+    }
+}
+
+impl PartialEq for Report {
+    fn eq(&self, other: &Report) -> bool {
+        self.as_bytes() == other.as_bytes()
+    }
+}
+
+impl Eq for Report {}
+
+impl fmt::Display for Report {
+    fn fmt(&self, f: &mut fmt::Formatter) -> fmt::Result {
+        f.write_str(&String::from_utf8_lossy(self.as_bytes()))
+    }
+}
+
+impl fmt::Debug for Report {
+    fn fmt(&self, f: &mut fmt::Formatter) -> fmt::Result {
+        f.debug_tuple("Report").field(&String::from_utf8_lossy(self.as_bytes())).finish()
+    }
+}
+
+/// The count n of floors, the influence area X in dm² and the figure in hundredths of a newton, at a floor.
+#[derive(Clone, Copy, Debug, PartialEq, Eq)]
+pub struct Working {
+    pub floors: u64,
+    pub influence: u64,
+    pub figure: u64,
+}
+
+/// Why a member is not opened, a line not entered or reduced, or a floor not asked at: the paper's number.
+#[derive(Clone, Copy, Debug, PartialEq, Eq)]
+pub struct Refused {
+    pub number: u64,
+}
+
+impl fmt::Display for Refused {
+    fn fmt(&self, f: &mut fmt::Formatter) -> fmt::Result {
+        write!(f, "refused={}", self.number)
+    }
+}
+
+impl std::error::Error for Refused {}
+
+/// Why a list has no figure: the number, and the place of the refused line, counted from 1; 0 for numbers 1 and 7.
+#[derive(Clone, Copy, Debug, PartialEq, Eq)]
+pub struct RefusedLine {
+    pub number: u64,
+    pub place: u64,
+}
+
+impl fmt::Display for RefusedLine {
+    fn fmt(&self, f: &mut fmt::Formatter) -> fmt::Result {
+        write!(f, "refused={} line={}", self.number, self.place)
+    }
+}
+
+impl std::error::Error for RefusedLine {}
+
+/// The first effect that is refused: 8 or 9, its place from 1 (dead) to 7 (quake), and its double as it came, bit for bit.
+#[derive(Clone, Copy, Debug)]
+pub struct RefusedEffect {
+    pub number: u64,
+    pub place: u64,
+    pub double: f64,
+}
+
+// Equal bit for bit, so that a NaN is equal to itself.
+impl PartialEq for RefusedEffect {
+    fn eq(&self, other: &RefusedEffect) -> bool {
+        let bits = |each: &RefusedEffect| (each.number, each.place, each.double.to_bits());
+        bits(self) == bits(other)
+    }
+}
+
+impl Eq for RefusedEffect {}
+
+impl fmt::Display for RefusedEffect {
+    fn fmt(&self, f: &mut fmt::Formatter) -> fmt::Result {
+        write!(f, "refused={} effect={} double={}", self.number, self.place, self.double)
+    }
+}
+
+impl std::error::Error for RefusedEffect {}
+
+impl From<[f64; 7]> for Effects {
+    /// In the paper's order: D, L, Lr, S, R, W, E.
+    fn from(doubles: [f64; 7]) -> Effects {
+        let [dead, live, roof, snow, rain, wind, quake] = doubles;
+        Effects { dead, live, roof, snow, rain, wind, quake }
+    }
+}
+
+impl From<Newtons> for [i64; 7] {
+    /// In the paper's order: D, L, Lr, S, R, W, E.
+    fn from(newtons: Newtons) -> [i64; 7] {
+        let Newtons { dead, live, roof, snow, rain, wind, quake } = newtons;
+        [dead, live, roof, snow, rain, wind, quake]
+    }
+}
+
+/// A member and its accepted lines. Only `open` makes one and only `enter` changes it.
+#[derive(Clone, Debug, PartialEq, Eq)]
+pub struct Column {
+    column: raw::Column,
+}
+
+impl Column {
+    /// Opens a member without lines; 1 where the code is not 1 to 12.
+    pub fn open(code: u64) -> Result<Column, Refused> {
+        // SAFETY: the call takes every code and touches no memory of ours.
+        let opened = unsafe { raw::bungero_open(code) };
+        match opened.number {
+            0 => Ok(Column { column: opened.column }),
+            number => Err(Refused { number }),
+        }
+    }
+
+    /// Enters a line at the end of the accepted ones; or 2 to 6, and the column is as before.
+    pub fn enter(&mut self, line: Line) -> Result<(), Refused> {
+        let Line { floor, class, load, area } = line;
+        let column = &mut self.column;
+        // SAFETY: the column is one that opening gave, changed only by entering; its places are borrowed for us alone.
+        let entered = unsafe { raw::bungero_enter(&mut column.held, column.member, column.count, floor, class, load, area) };
+        column.count = entered.count;
+        match entered.number {
+            0 => Ok(()),
+            number => Err(Refused { number }),
+        }
+    }
+
+    /// Asks at a floor; 7 where no accepted line has that floor.
+    pub fn ask(&self, floor: u64) -> Result<Working, Refused> {
+        let column = &self.column;
+        // SAFETY: the column is one that opening gave, changed only by entering; its places are only read.
+        let asked = unsafe { raw::bungero_ask(&column.held, column.member, column.count, floor) };
+        match asked.number {
+            0 => Ok(Working { floors: asked.floors, influence: asked.influence, figure: asked.figure }),
+            number => Err(Refused { number }),
+        }
+    }
+}
+
+/// The reduced load R of a line in N/m², at n floors (0 counts as 1) and influence area X in dm²; or 4 for a class that is
+/// not 1 to 3, 5 for a load that is not 1 to 50,000.
+pub fn reduced_load(load: u64, class: u64, floors: u64, influence: u64) -> Result<u64, Refused> {
+    // SAFETY: the call takes all numbers and touches no memory of ours.
+    let reduced = unsafe { raw::bungero_reduced_load(load, class, floors, influence) };
+    match reduced.number {
+        0 => Ok(reduced.reduced),
+        number => Err(Refused { number }),
+    }
+}
+
+/// The working at a floor of a member with these lines; or the first refusal: 1 for the code, else 2 to 6 for a line with its
+/// place, else 7 where no line has that floor.
+pub fn figure_of(code: u64, lines: &[Line], floor: u64) -> Result<Working, RefusedLine> {
+    // SAFETY: pointer and count are those of one slice, which the call only reads.
+    let listed = unsafe { raw::bungero_figure_of(code, lines.as_ptr(), lines.len(), floor) };
+    match listed.number {
+        0 => Ok(Working { floors: listed.floors, influence: listed.influence, figure: listed.figure }),
+        number => Err(RefusedLine { number, place: listed.place }),
+    }
+}
+
+/// The effects in whole newtons, minus zero as 0; or the first that is not whole or beyond ±1,000,000,000,000.
+pub fn check(effects: Effects) -> Result<Newtons, RefusedEffect> {
+    // SAFETY: the call takes all doubles, by value.
+    let checked = unsafe { raw::bungero_check(effects) };
+    match checked.number {
+        0 => Ok(checked.newtons),
+        number => Err(RefusedEffect { number, place: checked.place, double: checked.double }),
+    }
+}
+
+/// The rows of the 25 combinations with the greatest and the least sum; or the first effect that `check` refuses.
+pub fn combine(effects: Effects) -> Result<Governing, RefusedEffect> {
+    // SAFETY: the call takes all doubles, by value.
+    let combined = unsafe { raw::bungero_combine(effects) };
+    match combined.number {
+        0 => Ok(combined.governing),
+        number => Err(RefusedEffect { number, place: combined.place, double: combined.double }),
+    }
+}
+
+/// What *takedown* prints for the text, to the start of `out`; gives how many bytes, and leaves the others as they were.
+pub fn report_into(text: &[u8], out: &mut [u8; REPORT_ROOM]) -> usize {
+    // SAFETY: pointer and length are those of one slice, which the call only reads; `out` is borrowed for us alone.
+    unsafe { raw::bungero_report(text.as_ptr(), text.len(), out) }
+}
+
+/// What *takedown* prints for the text: each floor's working and the governing rows, or `refused=N line=K`.
+pub fn report(text: &[u8]) -> Report {
+    let mut room = [0; REPORT_ROOM];
+    let length = report_into(text, &mut room);
+    Report { room, length }
+}

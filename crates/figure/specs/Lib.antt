@@ -1,0 +1,8 @@
+-- The definitions of what holds at a floor; paper 01 in its order, then what private functions count.
+pub mod Lists
+pub mod Carried
+pub mod Figure
+pub mod Asked
+pub mod Workings
+pub mod Totals
+pub mod Descent

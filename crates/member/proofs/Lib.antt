@@ -1,0 +1,3 @@
+-- Laws of the definitions, for the proofs here and in the crates above.
+pub mod Tests
+pub mod Member

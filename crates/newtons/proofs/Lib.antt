@@ -1,0 +1,4 @@
+-- Laws of numbers, of values and of one effect.
+pub mod Numbers
+pub mod Values
+pub mod Limits

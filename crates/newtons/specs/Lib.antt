@@ -1,0 +1,2 @@
+-- What an effect is.
+pub mod Effect

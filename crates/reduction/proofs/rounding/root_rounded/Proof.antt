@@ -1,0 +1,22 @@
+-- `reduction::rounding::root_rounded` meets its contract. Assumes nothing.
+use mathlib.Core.Path.{refl}
+use native.Mathlib.Omega.{arith}
+use Rattle.reduction.proofs.Fits.{fit-root}
+use borrow.Author.Needs.{needs}
+use Rattle.reduction.proofs.rounding.root_rounded.Statement.{statement}
+use Rattle.reduction.proofs.rounding.root_rounded.Tie as tie
+
+guess-requires : tie.Need-guess-requires
+guess-requires c κs = omega (arith, fit-root (c .pre .0) refl)
+
+raised-requires : tie.Need-raised-requires
+raised-requires c κs = search needs
+
+lowered-requires : tie.Need-lowered-requires
+lowered-requires c κs = search needs
+
+returns : tie.Need-returns
+returns c = search needs
+
+pub root-rounded-spec : {M : Type 1} → statement M
+root-rounded-spec = tie.close (tie.spec guess-requires raised-requires lowered-requires returns)

@@ -1,0 +1,30 @@
+-- What is printed of the floors, by a table of their numbers. No promise cites it.
+-- Assumes nothing.
+use mathlib.Core.Bool.{cond}
+use mathlib.Core.List.{List, [], _++_}
+use Prim.Native.Nat.{ℕ, zero, suc, _+_, _*_, _-_}
+use lib.Dec.{eqb}
+use lib.ListN.{getD}
+use Rattle.figure.specs.declared.Working.{Working}
+use Rattle.report.specs.Report.{floorLine}
+
+-- the working that three numbers say
+abbrev pub workingFrom : ℕ → ℕ → ℕ → Working
+workingFrom n x figure = record { floors = n; influence = record { 0 = x }; figure = figure }
+
+-- the line of a floor; none where its n is 0
+unfoldable pub lineOf : ℕ → Working → List ℕ
+lineOf f w = cond (eqb (w .floors) 0) [] (floorLine f w)
+
+-- the working of the floor after f floors
+abbrev pub workingAfter : List ℕ → ℕ → Working
+workingAfter table f = workingFrom (getD table (3 * f) 0) (getD table (3 * f + 1) 0) (getD table (3 * f + 2) 0)
+
+-- the lines of the floors from 1 to f
+unfoldable pub tableLines : List ℕ → ℕ → List ℕ
+tableLines table zero = []
+tableLines table (suc f) = tableLines table f ++ lineOf (suc f) (workingAfter table f)
+
+-- the figure at a floor; 0 at floor 0, where there is none
+unfoldable pub figureAt : List ℕ → ℕ → ℕ
+figureAt table f = cond (eqb f 0) 0 (workingAfter table (f - 1) .figure)

@@ -1,0 +1,205 @@
+// Tries random columns by the safe calls, by the raw ones and by the second reckoning's list call: entries with refused
+// ones among them, asking at floors, and columns with more lines than they hold. The raw calls' places lie between canaries.
+#[path = "../bindings/bungero.rs"]
+mod bungero;
+#[allow(dead_code)]
+#[path = "../bench/random.rs"]
+mod random;
+#[allow(dead_code)]
+mod reckoning;
+
+use bungero::{raw, Column, Line, Refused, Working};
+use random::Random;
+
+const PLACES: usize = 1024;
+const CANARIES: usize = 16; // watched on either side of the places
+const CANARY: u32 = 0xa5a5_a5a5;
+const MOST_LINES: usize = 256;
+
+// Numbers outside the limits of a floor, a class, a load and an area; some look right when cut to fewer bits.
+const OUTSIDE: [[u64; 5]; 4] = [
+    [0, 65, 256 + 64, (1 << 32) + 64, u64::MAX],
+    [0, 4, 256 + 1, (1 << 32) + 1, u64::MAX],
+    [0, 50_001, 65_536 + 2_000, (1 << 32) + 2_000, u64::MAX],
+    [0, 200_001, 1 << 32, (1 << 32) + 1_600, u64::MAX],
+];
+
+// A column as the raw calls have it.
+struct RawColumn {
+    member: raw::Member,
+    count: u16,
+    lent: Vec<u32>, // the column's places, between canaries
+}
+
+impl RawColumn {
+    fn open(code: u64) -> RawColumn {
+        let opened = unsafe { raw::bungero_open(code) };
+        assert_eq!((opened.number, opened.column.count), (0, 0), "opening {code}");
+        let canaries = [CANARY; CANARIES];
+        let lent = [&canaries[..], &opened.column.held, &canaries].concat();
+        RawColumn { member: opened.column.member, count: 0, lent }
+    }
+
+    // The number of an entry. A refused one changes nothing, an accepted one no canary.
+    fn enter(&mut self, line: Line) -> u64 {
+        let before = self.lent.clone();
+        let Line { floor, class, load, area } = line;
+        let places = self.lent[CANARIES..].as_mut_ptr().cast::<[u32; PLACES]>();
+        // SAFETY: the places are those that opening gave, changed only here, and the count is the last one given.
+        let entered = unsafe { raw::bungero_enter(places, self.member, self.count, floor, class, load, area) };
+        if entered.number != 0 {
+            assert!(self.lent == before && entered.count == self.count, "a refused line changed the column");
+            return entered.number;
+        }
+        let mut beside = self.lent[..CANARIES].iter().chain(&self.lent[CANARIES + PLACES..]);
+        assert!(beside.all(|&each| each == CANARY), "written past the places");
+        assert_eq!(entered.count, self.count + 1, "an accepted line is not counted");
+        self.count = entered.count;
+        0
+    }
+
+    // What asking gives; it changes nothing, and a refusal comes alone.
+    fn ask(&self, floor: u64) -> Result<Working, Refused> {
+        let before = self.lent.clone();
+        let places = self.lent[CANARIES..].as_ptr().cast::<[u32; PLACES]>();
+        // SAFETY: as in `enter`.
+        let asked = unsafe { raw::bungero_ask(places, self.member, self.count, floor) };
+        assert!(self.lent == before, "asking changed the column");
+        let working = Working { floors: asked.floors, influence: asked.influence, figure: asked.figure };
+        if asked.number == 0 {
+            return Ok(working);
+        }
+        assert_eq!(working, Working { floors: 0, influence: 0, figure: 0 }, "a figure beside a refusal");
+        Err(Refused { number: asked.number })
+    }
+}
+
+// One column by all three ways; for the reckoning only the accepted lines are kept.
+struct Trial {
+    code: u64,
+    safe: Column,
+    raw: RawColumn,
+    accepted: Vec<[u64; 4]>,
+}
+
+impl Trial {
+    fn open(code: u64) -> Trial {
+        Trial { code, safe: Column::open(code).unwrap(), raw: RawColumn::open(code), accepted: Vec::new() }
+    }
+
+    // Enters a line; gives its number. The reckoning's list of the accepted lines and this one must be refused at this one.
+    fn enter(&mut self, line: Line) -> u64 {
+        self.accepted.push([line.floor, line.class, line.load, line.area]);
+        let number = match reckoning::listed(self.code, &self.accepted, line.floor) {
+            Ok(_) => 0,
+            Err((number, place)) => {
+                assert_eq!(place, self.accepted.len() as u64, "an accepted line is refused by the reckoning");
+                self.accepted.pop();
+                number
+            }
+        };
+        assert_eq!(self.raw.enter(line), number, "entering {line:?} after {:?}", self.accepted);
+        let safe = self.safe.enter(line).map_or_else(|refused| refused.number, |()| 0);
+        assert_eq!(safe, number, "entering {line:?} after {:?}", self.accepted);
+        number
+    }
+
+    // Asks at a floor; gives whether it has a line.
+    fn ask(&self, floor: u64) -> bool {
+        let reckoned = match reckoning::listed(self.code, &self.accepted, floor) {
+            Ok((floors, influence, figure)) => Ok(Working { floors, influence, figure }),
+            Err((number, _)) => Err(Refused { number }),
+        };
+        assert_eq!(self.raw.ask(floor), reckoned, "asking at {floor} after {:?}", self.accepted);
+        assert_eq!(self.safe.ask(floor), reckoned, "asking at {floor} after {:?}", self.accepted);
+        reckoned.is_ok()
+    }
+
+    // Asks at every floor and beyond; gives how many have a line.
+    fn ask_all(&self) -> u64 {
+        let wide = [256 + 1, 256 + 64, (1 << 32) + 1, (1 << 32) + 64, u64::MAX];
+        (0..=66).chain(wide).map(|floor| u64::from(self.ask(floor))).sum()
+    }
+}
+
+// A good line at a floor, its load and area at a limit now and then.
+fn good_line(random: &mut Random, floor: u64) -> Line {
+    let most_load = random.pick(&[5_000, 6_000, 50_000]);
+    let most_area = random.pick(&[90, 900, 9_000, 200_000]);
+    let (any_load, any_area) = (random.between(1, most_load), random.between(1, most_area));
+    let load = random.pick(&[any_load, any_load, any_load, 1, 5_000, 5_001, 50_000]);
+    let area = random.pick(&[any_area, any_area, any_area, any_area, any_area, 1, 200_000]);
+    Line { floor, class: random.between(1, 3), load, area }
+}
+
+// The line at a floor further up, often above the last accepted one, or with some of its numbers outside their limits.
+fn damaged_line(random: &mut Random, good: Line) -> Line {
+    if random.below(4) == 0 {
+        return Line { floor: good.floor.saturating_sub(random.between(1, 3)), ..good };
+    }
+    let mut numbers = [good.floor, good.class, good.load, good.area];
+    for _ in 0..random.between(1, 4) {
+        let field = random.index(4);
+        numbers[field] = random.pick(&OUTSIDE[field]);
+    }
+    let [floor, class, load, area] = numbers;
+    Line { floor, class, load, area }
+}
+
+// What was met: floors asked at that have a line, entries of each number, and accepted ones just after a refused one.
+#[derive(Default)]
+struct Tally {
+    figures: u64,
+    entries: [u64; 7],
+    accepted_after_refused: u64,
+}
+
+// Random columns, about one entry in five damaged.
+fn try_random(columns: u64) -> Tally {
+    let random = &mut Random(5);
+    let mut tally = Tally::default();
+    for _ in 0..columns {
+        let mut trial = Trial::open(random.between(1, 12));
+        let (mut floor, mut last) = (random.pick(&[1, 1, 1, 2, 40]), 0);
+        for _ in 0..random.below(40) {
+            floor = (floor + random.pick(&[0, 0, 0, 1, 1, 2])).min(64);
+            let good = good_line(random, floor);
+            let line = if random.below(5) == 0 { damaged_line(random, good) } else { good };
+            let number = trial.enter(line);
+            tally.entries[number as usize] += 1;
+            tally.accepted_after_refused += u64::from(number == 0 && last != 0);
+            last = number;
+        }
+        tally.figures += trial.ask_all();
+    }
+    tally
+}
+
+// Columns with four lines more than they hold, all of them good: the last four are refused with 2. How many figures they gave.
+fn try_full(columns: u64) -> u64 {
+    let random = &mut Random(6);
+    let mut figures = 0;
+    for _ in 0..columns {
+        let mut trial = Trial::open(random.between(1, 12));
+        let lines_a_floor = random.pick(&[5, 6, 9, 20, 260]);
+        for entry in 0..MOST_LINES + 4 {
+            let line = good_line(random, 1 + entry as u64 / lines_a_floor);
+            assert_eq!(trial.enter(line), if entry < MOST_LINES { 0 } else { 2 }, "line {} of a full column", entry + 1);
+        }
+        assert_eq!(usize::from(trial.raw.count), MOST_LINES);
+        figures += trial.ask_all();
+    }
+    figures
+}
+
+fn main() {
+    let (random, full) = (10_000, 200);
+    let Tally { figures, entries, accepted_after_refused } = try_random(random);
+    assert!(figures >= 5 * random, "only {figures} figures");
+    assert!(entries[3..].iter().all(|&count| count >= random / 5), "too few entries with a number: {entries:?}");
+    assert!(accepted_after_refused >= random, "only {accepted_after_refused} lines accepted after a refused one");
+    println!("{random} random columns by safe calls, raw calls and second reckoning alike: {figures} figures");
+    println!("{} entries accepted, {accepted_after_refused} of them just after a refused one", entries[0]);
+    println!("entries refused with 3 to 6: {:?}", &entries[3..]);
+    println!("{full} columns with 4 lines too many, {} figures, nothing written beside their places", try_full(full));
+}

@@ -1,0 +1,258 @@
+/* Tries the header's calls from C and from C++: each field of what is lent and given, refusals, and wide numbers. */
+#include "bungero.h"
+
+#include <inttypes.h>
+#include <stdio.h>
+#include <stdlib.h>
+#include <string.h>
+
+/* Looks like 1 where only the lowest 32 bits are read. */
+static const uint64_t wide_one = (UINT64_C(1) << 32) + 1;
+
+/* Stops where two numbers differ. */
+static void expect(const char *what, uint64_t given, uint64_t wanted)
+{
+    if (given != wanted) {
+        printf("%s: %" PRIu64 ", not %" PRIu64 "\n", what, given, wanted);
+        exit(1);
+    }
+}
+
+/* The same for numbers of either sign. */
+static void expect_signed(const char *what, int64_t given, int64_t wanted)
+{
+    if (given != wanted) {
+        printf("%s: %" PRId64 ", not %" PRId64 "\n", what, given, wanted);
+        exit(1);
+    }
+}
+
+/* The same for doubles that are no NaN. */
+static void expect_double(const char *what, double given, double wanted)
+{
+    if (given != wanted) {
+        printf("%s: %.17g, not %.17g\n", what, given, wanted);
+        exit(1);
+    }
+}
+
+static bungero_line line_of(uint64_t floor, uint64_t use_class, uint64_t load, uint64_t area)
+{
+    bungero_line line;
+    line.floor = floor;
+    line.use_class = use_class;
+    line.load = load;
+    line.area = area;
+    return line;
+}
+
+/* A line that must be refused, with the column as before. The bytes between its members have no value to compare. */
+static void expect_refused(bungero_column *column, bungero_line line, uint64_t number)
+{
+    bungero_column before = *column;
+    expect("entering", bungero_column_enter(column, line), number);
+    expect("the column's code as before", column->member.code, before.member.code);
+    expect("the column's count as before", column->count, before.count);
+    expect("the column's places as before", memcmp(before.held, column->held, sizeof before.held) == 0, 1);
+}
+
+/* What asking at a floor must give. */
+static void expect_working(const bungero_column *column, uint64_t floor, uint64_t floors, uint64_t influence, uint64_t figure)
+{
+    bungero_figure asked = bungero_column_ask(column, floor);
+    expect("asking", asked.number, BUNGERO_ACCEPTED);
+    expect("floors", asked.floors, floors);
+    expect("influence area", asked.influence, influence);
+    expect("figure", asked.figure, figure);
+}
+
+/* Asking that must be refused, with nothing else in the answer. */
+static void expect_no_floor(const bungero_column *column, uint64_t floor)
+{
+    bungero_figure asked = bungero_column_ask(column, floor);
+    expect("asking", asked.number, BUNGERO_NO_SUCH_FLOOR);
+    expect("floors, refused", asked.floors, 0);
+    expect("influence area, refused", asked.influence, 0);
+    expect("figure, refused", asked.figure, 0);
+}
+
+/* The sample's two lines with refused ones after them, and a full column. */
+static void try_column(void)
+{
+    expect("code 0", bungero_open(0).number, BUNGERO_CODE);
+    expect("code 13", bungero_open(13).number, BUNGERO_CODE);
+    expect("code 2^32 + 1", bungero_open(wide_one).number, BUNGERO_CODE);
+    bungero_opened opened = bungero_open(1);
+    expect("code 1", opened.number, BUNGERO_ACCEPTED);
+    bungero_column column = opened.column;
+    expect_no_floor(&column, 1);
+    expect("floor 1", bungero_column_enter(&column, line_of(1, 1, 2000, 1600)), BUNGERO_ACCEPTED);
+    expect_refused(&column, line_of(wide_one, 1, 2000, 1600), BUNGERO_FLOOR);
+    expect("floor 2", bungero_column_enter(&column, line_of(2, 1, 2000, 1600)), BUNGERO_ACCEPTED);
+    expect_refused(&column, line_of(1, 1, 2000, 1600), BUNGERO_FLOOR);
+    expect_refused(&column, line_of(2, 4, 0, 0), BUNGERO_CLASS);
+    expect_refused(&column, line_of(2, wide_one, 2000, 1600), BUNGERO_CLASS);
+    expect_refused(&column, line_of(2, 1, 50001, 0), BUNGERO_LOAD);
+    expect_refused(&column, line_of(2, 1, wide_one, 1600), BUNGERO_LOAD);
+    expect_refused(&column, line_of(2, 1, 2000, 200001), BUNGERO_AREA);
+    expect_refused(&column, line_of(2, 1, 2000, wide_one), BUNGERO_AREA);
+    expect_working(&column, 1, 1, 6400, 2628800);
+    expect_working(&column, 2, 2, 12800, 4185600);
+    expect_no_floor(&column, wide_one);
+    for (int held = 2; held < 256; held++) {
+        expect("lines held", column.count, held);
+        expect("more lines", bungero_column_enter(&column, line_of(64, 3, 1, 1)), BUNGERO_ACCEPTED);
+    }
+    expect_refused(&column, line_of(64, 3, 1, 1), BUNGERO_FULL);
+    expect_working(&column, 64, 3, 12800, 4185600 + 254);
+}
+
+/* What the list call must give: the sample's working at its second floor where nothing is refused. */
+static void expect_listed(uint64_t code, const bungero_line *lines, uint64_t floor, uint64_t number, uint64_t place)
+{
+    bungero_listed listed = bungero_figure_of(code, lines, 2, floor);
+    int accepted = number == BUNGERO_ACCEPTED;
+    expect("list, number", listed.number, number);
+    expect("list, place", listed.place, place);
+    expect("list, floors", listed.floors, accepted ? 2 : 0);
+    expect("list, influence area", listed.influence, accepted ? 12800 : 0);
+    expect("list, figure", listed.figure, accepted ? 4185600 : 0);
+}
+
+/* The sample's lines as a list, and wide numbers in each field of the second one, for the code and for the floor. */
+static void try_list(void)
+{
+    bungero_line lines[2] = {line_of(1, 1, 2000, 1600), line_of(2, 1, 2000, 1600)};
+    uint64_t *fields[4] = {&lines[1].floor, &lines[1].use_class, &lines[1].load, &lines[1].area};
+    expect_listed(1, lines, 2, BUNGERO_ACCEPTED, 0);
+    expect_listed(wide_one, lines, 2, BUNGERO_CODE, 0);
+    expect_listed(1, lines, wide_one + 1, BUNGERO_NO_SUCH_FLOOR, 0);
+    for (int at = 0; at < 4; at++) {
+        uint64_t good = *fields[at];
+        *fields[at] = wide_one;
+        expect_listed(1, lines, 2, BUNGERO_FLOOR + at, 2);
+        *fields[at] = good;
+    }
+}
+
+/* What reducing a load must give. */
+static void expect_reduced(bungero_reduced given, uint64_t number, uint64_t reduced)
+{
+    expect("reducing", given.number, number);
+    expect("reduced load", given.reduced, reduced);
+}
+
+/* Two of the paper's figures, and the order of its numbers 4 and 5. */
+static void try_reduced_load(void)
+{
+    expect_reduced(bungero_reduced_load(2000, 1, 1, 6400), BUNGERO_ACCEPTED, 1643);
+    expect_reduced(bungero_reduced_load(5000, 1, 2, 10000), BUNGERO_ACCEPTED, 3535);
+    expect_reduced(bungero_reduced_load(0, 4, 1, 6400), BUNGERO_CLASS, 0);
+    expect_reduced(bungero_reduced_load(wide_one, 1, 1, 6400), BUNGERO_LOAD, 0);
+}
+
+/* Effects of 1 newton (dead) to 7 newtons (quake), so that no field can stand in for another. */
+static bungero_effects one_to_seven(void)
+{
+    bungero_effects effects;
+    effects.dead = 1;
+    effects.live = 2;
+    effects.roof = 3;
+    effects.snow = 4;
+    effects.rain = 5;
+    effects.wind = 6;
+    effects.quake = 7;
+    return effects;
+}
+
+/* What checking these must give, field by field. */
+static void try_check(void)
+{
+    bungero_checked checked = bungero_check(one_to_seven());
+    expect("checking", checked.number, BUNGERO_ACCEPTED);
+    expect("place, none refused", checked.place, 0);
+    expect_double("value, none refused", checked.value, 0);
+    expect_signed("dead", checked.newtons.dead, 1);
+    expect_signed("live", checked.newtons.live, 2);
+    expect_signed("roof", checked.newtons.roof, 3);
+    expect_signed("snow", checked.newtons.snow, 4);
+    expect_signed("rain", checked.newtons.rain, 5);
+    expect_signed("wind", checked.newtons.wind, 6);
+    expect_signed("quake", checked.newtons.quake, 7);
+}
+
+/* A refused effect in each field in turn, by both calls: its number, its place and its double. */
+static void try_refused_effects(double refused, uint64_t number)
+{
+    bungero_effects effects;
+    double *fields[7] = {&effects.dead, &effects.live, &effects.roof, &effects.snow,
+                         &effects.rain, &effects.wind, &effects.quake};
+    for (int at = 0; at < 7; at++) {
+        effects = one_to_seven();
+        *fields[at] = refused;
+        bungero_checked checked = bungero_check(effects);
+        expect("checking, refused", checked.number, number);
+        expect("checking, place", checked.place, at + 1);
+        expect_double("checking, value", checked.value, refused);
+        expect_signed("checking, no newtons", checked.newtons.dead, 0);
+        bungero_combined combined = bungero_combine(effects);
+        expect("combining, refused", combined.number, number);
+        expect("combining, place", combined.place, at + 1);
+        expect_double("combining, value", combined.value, refused);
+        expect("combining, no row", combined.governing.greatest.row, 0);
+    }
+}
+
+/* A governing row. */
+static void expect_row(const char *what, bungero_governing_row given, uint64_t row, int64_t tenths)
+{
+    expect(what, given.row, row);
+    expect_signed(what, given.tenths, tenths);
+    expect_double(what, given.value, (double)tenths);
+}
+
+/* The paper's case of dead and wind, and one with a sum below 0. */
+static void try_combine(void)
+{
+    bungero_effects effects = {100000, 0, 0, 0, 0, 60000, 0};
+    bungero_combined combined = bungero_combine(effects);
+    expect("combining", combined.number, BUNGERO_ACCEPTED);
+    expect("place, none refused", combined.place, 0);
+    expect_double("value, none refused", combined.value, 0);
+    expect_row("greatest", combined.governing.greatest, 14, 1800000);
+    expect_row("least", combined.governing.least, 23, 300000);
+    effects.wind = 100000;
+    expect_row("least, below 0", bungero_combine(effects).governing.least, 23, -100000);
+}
+
+/* The report of no text, lent from nowhere; the rest of the buffer stays as it was. */
+static void try_report(void)
+{
+    static const char wanted[] = "refused=10 line=1\n";
+    uint8_t out[BUNGERO_REPORT_ROOM], as_before[BUNGERO_REPORT_ROOM];
+    memset(as_before, 0xa5, sizeof as_before);
+    memcpy(out, as_before, sizeof out);
+    size_t length = bungero_report(NULL, 0, out);
+    expect("report, length", length, sizeof wanted - 1);
+    expect("report", memcmp(out, wanted, length) == 0, 1);
+    expect("the buffer past the report", memcmp(out + length, as_before + length, sizeof out - length) == 0, 1);
+}
+
+int main(void)
+{
+    try_column();
+    try_list();
+    try_reduced_load();
+    try_check();
+    try_refused_effects(0.5, BUNGERO_NOT_WHOLE);
+    try_refused_effects(-1000000000001.0, BUNGERO_BEYOND_LIMIT);
+    try_combine();
+    try_report();
+#ifdef __cplusplus
+    const char *language = "C++";
+#else
+    const char *language = "C";
+#endif
+    printf("the header's calls from %s give the paper's figures, each field and each refusal as they should\n", language);
+    return 0;
+}

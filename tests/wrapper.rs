@@ -1,0 +1,209 @@
+// Tries the safe calls for Rust: the layout of C's structs, the figures that the paper prints, every refusal by its name,
+// and random reduced loads.
+#[path = "../bindings/bungero.rs"]
+mod bungero;
+mod paper;
+#[allow(dead_code)]
+#[path = "../bench/random.rs"]
+mod random;
+#[allow(dead_code)]
+mod reckoning;
+
+use bungero::refusal::*;
+use bungero::{check, combine, figure_of, raw, reduced_load, report, report_into};
+use bungero::{Column, Effects, GoverningRow, Line, Newtons, Refused, RefusedEffect, RefusedLine, Working, REPORT_ROOM};
+use paper::{SAMPLE, SAMPLE_REPORT};
+use random::Random;
+use std::mem::{align_of, offset_of, size_of};
+
+// Stops where a struct has not the size, the alignment or the offsets that the library was built for.
+macro_rules! layout {
+    ($name:ident, size $size:expr, align $align:expr, $($field:ident $offset:expr),+) => {
+        assert_eq!((size_of::<raw::$name>(), align_of::<raw::$name>()), ($size, $align), stringify!($name));
+        $(assert_eq!(offset_of!(raw::$name, $field), $offset, concat!(stringify!($name), ".", stringify!($field)));)+
+    };
+}
+
+fn line(floor: u64, class: u64, load: u64, area: u64) -> Line {
+    Line { floor, class, load, area }
+}
+
+fn working(floors: u64, influence: u64, figure: u64) -> Working {
+    Working { floors, influence, figure }
+}
+
+// Every struct's layout.
+fn try_layout() {
+    layout!(Line, size 32, align 8, floor 0, class 8, load 16, area 24);
+    layout!(Member, size 1, align 1, code 0);
+    layout!(Column, size 4100, align 4, member 0, count 2, held 4);
+    layout!(BungeroOpened, size 4112, align 8, number 0, column 8);
+    layout!(BungeroEntered, size 16, align 8, number 0, count 8);
+    layout!(BungeroFigure, size 32, align 8, number 0, floors 8, influence 16, figure 24);
+    layout!(BungeroReduced, size 16, align 8, number 0, reduced 8);
+    layout!(BungeroListed, size 40, align 8, number 0, place 8, floors 16, influence 24, figure 32);
+    layout!(Effects, size 56, align 8, dead 0, live 8, roof 16, snow 24, rain 32, wind 40, quake 48);
+    layout!(Newtons, size 56, align 8, dead 0, live 8, roof 16, snow 24, rain 32, wind 40, quake 48);
+    layout!(BungeroChecked, size 80, align 8, number 0, place 8, double 16, newtons 24);
+    layout!(GoverningRow, size 24, align 8, row 0, tenths 8, double 16);
+    layout!(Governing, size 48, align 8, greatest 0, least 24);
+    layout!(BungeroCombined, size 72, align 8, number 0, place 8, double 16, governing 24);
+}
+
+// The sample's report, by both calls: `report_into` leaves the rest of the buffer as it was.
+fn try_report() {
+    let sample = report(SAMPLE);
+    assert_eq!(sample.as_bytes(), SAMPLE_REPORT);
+    assert_eq!((&sample[..], sample.to_string().as_bytes()), (SAMPLE_REPORT, SAMPLE_REPORT));
+    assert_eq!(sample, sample.clone());
+    for fill in [0, 0xff] {
+        let mut out = [fill; REPORT_ROOM];
+        let length = report_into(SAMPLE, &mut out);
+        assert_eq!(&out[..length], SAMPLE_REPORT);
+        assert!(out[length..].iter().all(|&byte| byte == fill));
+    }
+    let mut out = [0; REPORT_ROOM];
+    let length = unsafe { raw::bungero_report(std::ptr::null(), 0, &mut out) };
+    assert_eq!(&out[..length], b"refused=10 line=1\n", "no text, lent from nowhere");
+    let refused = |number: u64, line: u64| format!("refused={number} line={line}\n");
+    assert_eq!(report(b"").to_string(), refused(FORM, 1));
+    assert_eq!(report(b"member=13\n").to_string(), refused(CODE, 1));
+    assert_eq!(report(&[0; 32_768]).to_string(), refused(FORM, 1));
+    assert_eq!(report(&[0; 32_769]).to_string(), refused(TOO_LONG, 0));
+    assert_ne!(report(b""), sample);
+}
+
+// The paper's two columns, by the list call and by the column's own calls.
+fn try_printed_columns() {
+    let heavy_above = [line(1, 1, 6000, 10_000), line(2, 1, 2000, 100)];
+    let sample = [line(1, 1, 2000, 1600), line(2, 1, 2000, 1600)];
+    let heavy_workings = [working(1, 0, 60_000_000), working(2, 400, 48_200_000)];
+    let sample_workings = [working(1, 6400, 2_628_800), working(2, 12_800, 4_185_600)];
+    for (lines, workings) in [(heavy_above, heavy_workings), (sample, sample_workings)] {
+        let mut column = Column::open(1).unwrap();
+        for each in lines {
+            column.enter(each).unwrap();
+        }
+        for floor in [1, 2] {
+            let wanted = workings[floor as usize - 1];
+            assert_eq!(column.ask(floor), Ok(wanted));
+            assert_eq!(figure_of(1, &lines, floor), Ok(wanted));
+        }
+    }
+}
+
+// The paper's reduced loads, and the order of the refusals of a class and of a load.
+fn try_printed_loads() {
+    for [load, class, floors, influence, reduced] in paper::reduced_loads() {
+        assert_eq!(reduced_load(load, class, floors, influence), Ok(reduced), "{load} {class} {floors} {influence}");
+    }
+    assert_eq!(reduced_load(2000, 1, 0, 6400), reduced_load(2000, 1, 1, 6400));
+    for class in [0, 4, u64::MAX] {
+        assert_eq!(reduced_load(0, class, 1, 6400), Err(Refused { number: CLASS }));
+    }
+    for load in [0, 50_001, u64::MAX] {
+        assert_eq!(reduced_load(load, 1, 1, 6400), Err(Refused { number: LOAD }));
+    }
+    assert_eq!(reduced_load(50_000, 1, 1, 6400), Ok(50_000));
+}
+
+// The paper's combination case, and refused effects, equal bit for bit where the double is a NaN.
+fn try_effects() {
+    let effects = Effects { dead: 100_000.0, wind: 60_000.0, rain: -0.0, ..Effects::default() };
+    assert_eq!(check(effects), Ok(Newtons { dead: 100_000, wind: 60_000, ..Newtons::default() }));
+    let governing = combine(effects).unwrap();
+    assert_eq!(governing.greatest, GoverningRow { row: 14, tenths: 1_800_000, double: 1_800_000.0 });
+    assert_eq!(governing.least, GoverningRow { row: 23, tenths: 300_000, double: 300_000.0 });
+    let signalling = f64::from_bits(0xfff0_0000_0000_0001);
+    let not_whole = [0.5, f64::NEG_INFINITY, f64::NAN, signalling].map(|double| (double, NOT_WHOLE));
+    let beyond = [1e12 + 1.0, f64::MAX].map(|double| (double, BEYOND_LIMIT));
+    for (double, number) in not_whole.into_iter().chain(beyond) {
+        for place in 1..=7 {
+            let mut doubles = [-1e12; 7];
+            doubles[place as usize - 1] = double;
+            let refused = RefusedEffect { number, place, double };
+            assert_eq!(check(doubles.into()), Err(refused));
+            assert_eq!(combine(doubles.into()).unwrap_err(), refused);
+            assert_ne!(refused, RefusedEffect { double: f64::from_bits(double.to_bits() ^ 1), ..refused });
+        }
+    }
+}
+
+// The numbers of opening, entering and asking; a refused line leaves the column as before.
+fn try_column_refusals() {
+    for code in [0, 13, 256 + 1, (1 << 32) + 1, u64::MAX] {
+        assert_eq!(Column::open(code), Err(Refused { number: CODE }));
+        assert_eq!(figure_of(code, &[], 1), Err(RefusedLine { number: CODE, place: 0 }));
+    }
+    let mut column = Column::open(12).unwrap();
+    let no_such_floor = Refused { number: NO_SUCH_FLOOR };
+    assert_eq!(column.ask(1), Err(no_such_floor));
+    column.enter(line(2, 1, 2000, 100)).unwrap();
+    let floors = [line(0, 0, 0, 0), line(65, 4, 0, 0), line(1, 1, 1, 1)].map(|each| (each, FLOOR));
+    let others = [(line(2, 4, 0, 0), CLASS), (line(2, 3, 50_001, 0), LOAD), (line(2, 3, 50_000, 200_001), AREA)];
+    for (each, number) in floors.into_iter().chain(others) {
+        let before = column.clone();
+        assert_eq!(column.enter(each), Err(Refused { number }));
+        assert!(column == before, "a refused line changed the column");
+        assert_eq!(figure_of(12, &[line(2, 1, 2000, 100), each], 2), Err(RefusedLine { number, place: 2 }));
+    }
+    for _ in 1..256 {
+        column.enter(line(2, 1, 2000, 100)).unwrap();
+    }
+    let full = column.clone();
+    assert_eq!(column.enter(line(1, 4, 0, 0)), Err(Refused { number: FULL }));
+    assert!(column == full, "a refused line changed the full column");
+    assert_eq!([1, 3, 64, 65, 256 + 2].map(|floor| column.ask(floor)), [Err(no_such_floor); 5]);
+    assert_eq!(column.ask(2).ok(), figure_of(12, &[line(2, 1, 2000, 100); 256], 2).ok());
+}
+
+// How refusals are printed, each as an error of Rust's.
+fn try_display() {
+    let shown = |refused: &dyn std::error::Error| refused.to_string();
+    assert_eq!(shown(&Refused { number: FULL }), "refused=2");
+    assert_eq!(shown(&RefusedLine { number: AREA, place: 12 }), "refused=6 line=12");
+    assert_eq!(shown(&RefusedEffect { number: NOT_WHOLE, place: 7, double: -0.5 }), "refused=8 effect=7 double=-0.5");
+}
+
+// A load, a class, a count of floors and an influence area; loads and classes are good more often than not.
+fn random_reducible(random: &mut Random) -> [u64; 4] {
+    let (light, any_load) = (random.between(1, 5_000), random.between(1, 50_000));
+    let outside = random.pick(&[u64::MAX, (1 << 32) + light, (1 << 16) + light]);
+    let loads = [light, light, light, any_load, any_load, any_load, random.below(60_000), outside];
+    let any_class = random.between(1, 3);
+    let classes = [1, 1, 1, any_class, any_class, any_class, random.below(5), (1 << 32) + 1];
+    let floors = [random.below(4), 1, 2, u64::MAX];
+    let influences = [random.below(100_000), random.below(10_000), random.between(3_000, 4_000), u64::MAX - random.below(9)];
+    [random.pick(&loads), random.pick(&classes), random.pick(&floors), random.pick(&influences)]
+}
+
+// Random reduced loads: the safe call, the raw one and the second reckoning. How many are refused.
+fn try_random_loads(count: u64) -> u64 {
+    let random = &mut Random(4);
+    let mut refused = 0;
+    for _ in 0..count {
+        let numbers = random_reducible(random);
+        let [load, class, floors, influence] = numbers;
+        let reckoned = reckoning::reduced(load, class, floors, influence);
+        let given = unsafe { raw::bungero_reduced_load(load, class, floors, influence) };
+        let wanted = reckoned.map_or_else(|number| (number, 0), |reduced| (0, reduced));
+        assert_eq!((given.number, given.reduced), wanted, "{numbers:?}");
+        let safe = reduced_load(load, class, floors, influence);
+        assert_eq!(safe, reckoned.map_err(|number| Refused { number }), "{numbers:?}");
+        refused += u64::from(safe.is_err());
+    }
+    assert!(refused >= count / 20 && refused <= count / 2, "{refused} of {count} loads refused");
+    refused
+}
+
+fn main() {
+    try_layout();
+    try_report();
+    try_printed_columns();
+    try_printed_loads();
+    try_effects();
+    try_column_refusals();
+    try_display();
+    println!("the safe calls give the paper's figures and refusals");
+    println!("1000000 random reduced loads as in the second reckoning, {} refused", try_random_loads(1_000_000));
+}
