@@ -22,6 +22,9 @@ extern "C" {
 /* The bytes of the buffer that bungero_report writes to; no report is longer than 3,960. */
 #define BUNGERO_REPORT_ROOM 4096
 
+/* The most lines that a column holds. */
+#define BUNGERO_LINES 256
+
 /* The refusals, with the paper's numbers, in the order of its table. */
 enum bungero_refusal {
     BUNGERO_ACCEPTED = 0,          /* no condition holds */
@@ -51,13 +54,13 @@ typedef struct bungero_member {
     uint8_t code;
 } bungero_member;
 
-/* A member and its accepted lines, four numbers a line. Opaque: a caller may copy it whole, and lend it to the calls below, and
+/* A member and its accepted lines, each as one number. Opaque: a caller may copy it whole, and lend it to the calls below, and
    no more. A column must be one that bungero_open with number 0 gave, changed by bungero_enter alone; of any other nothing is
    promised. */
 typedef struct bungero_column {
     bungero_member member;
     uint16_t count;
-    uint32_t held[1024];
+    uint64_t held[BUNGERO_LINES];
 } bungero_column;
 
 /* What bungero_open gives. */
@@ -141,9 +144,9 @@ bungero_opened bungero_open(uint64_t code);
 /* The calls of the library behind bungero_column_enter and bungero_column_ask, which are what a program uses: a column is lent
    in its parts, and entering writes to the places where the line is accepted and gives the column's new count. The parts must
    be those of one column as bungero_open with number 0 gave it, or bungero_enter after that; of others nothing is promised. */
-bungero_entered bungero_enter(uint32_t held[1024], bungero_member member, uint16_t count, uint64_t floor, uint64_t use_class,
+bungero_entered bungero_enter(uint64_t held[BUNGERO_LINES], bungero_member member, uint16_t count, uint64_t floor, uint64_t use_class,
                               uint64_t load, uint64_t area);
-bungero_figure bungero_ask(const uint32_t held[1024], bungero_member member, uint16_t count, uint64_t floor);
+bungero_figure bungero_ask(const uint64_t held[BUNGERO_LINES], bungero_member member, uint16_t count, uint64_t floor);
 
 /* Enters a line at the end of the accepted lines of a column, one as these calls gave it: number 0, and the column has the
    line. Else number 2, 3, 4, 5 or 6, the first whose condition holds in this order, and the column is as before. */
@@ -191,9 +194,9 @@ size_t bungero_report(const uint8_t *text, size_t length, uint8_t out[BUNGERO_RE
 /* The layout that the library was built for. */
 static_assert(sizeof(bungero_line) == 32 && offsetof(bungero_line, area) == 24, "bungero_line");
 static_assert(sizeof(bungero_member) == 1, "bungero_member");
-static_assert(sizeof(bungero_column) == 4100, "bungero_column");
-static_assert(offsetof(bungero_column, count) == 2 && offsetof(bungero_column, held) == 4, "bungero_column");
-static_assert(sizeof(bungero_opened) == 4112 && offsetof(bungero_opened, column) == 8, "bungero_opened");
+static_assert(sizeof(bungero_column) == 2056, "bungero_column");
+static_assert(offsetof(bungero_column, count) == 2 && offsetof(bungero_column, held) == 8, "bungero_column");
+static_assert(sizeof(bungero_opened) == 2064 && offsetof(bungero_opened, column) == 8, "bungero_opened");
 static_assert(sizeof(bungero_entered) == 16 && offsetof(bungero_entered, count) == 8, "bungero_entered");
 static_assert(sizeof(bungero_figure) == 32 && offsetof(bungero_figure, figure) == 24, "bungero_figure");
 static_assert(sizeof(bungero_reduced) == 16 && offsetof(bungero_reduced, reduced) == 8, "bungero_reduced");

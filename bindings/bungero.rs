@@ -57,13 +57,19 @@ pub mod raw {
         pub code: u8,
     }
 
-    /// A member and its accepted lines, four numbers a line, only ever as these calls gave it.
+    /// The most lines that a column holds.
+    pub const LINES: usize = 256;
+
+    /// The places of a column's lines, each line as one number.
+    pub type Places = [u64; LINES];
+
+    /// A member and its accepted lines, only ever as these calls gave it.
     #[repr(C)]
     #[derive(Clone, Copy, Debug, PartialEq, Eq)]
     pub struct Column {
         pub member: Member,
         pub count: u16,
-        pub held: [u32; 1024],
+        pub held: Places,
     }
 
     /// What opening gives: the number, and the column.
@@ -180,7 +186,7 @@ pub mod raw {
         /// Enters a line on a column lent in its parts, which must be one that these calls gave; writes to `held` where it is
         /// accepted, and the column's count is then the one in the answer.
         pub fn bungero_enter(
-            held: *mut [u32; 1024],
+            held: *mut Places,
             member: Member,
             count: u16,
             floor: u64,
@@ -189,7 +195,7 @@ pub mod raw {
             area: u64,
         ) -> BungeroEntered;
         /// Asks at a floor of a column lent in its parts, which must be one that these calls gave.
-        pub fn bungero_ask(held: *const [u32; 1024], member: Member, count: u16, floor: u64) -> BungeroFigure;
+        pub fn bungero_ask(held: *const Places, member: Member, count: u16, floor: u64) -> BungeroFigure;
         /// The reduced load R of a line, at n floors and influence area X.
         pub fn bungero_reduced_load(load: u64, class: u64, floors: u64, influence: u64) -> BungeroReduced;
         /// The figure of a lent list, `count` records that are only read; `lines` may be null where there are none.
@@ -331,10 +337,13 @@ impl From<Newtons> for [i64; 7] {
     }
 }
 
-/// A member and its accepted lines. Only `open` makes one and only `enter` changes it.
+/// A member and its accepted lines. Only `open` makes one and only `enter` changes it. The count stands by itself, so that no
+/// wide read of it with the member has to wait until its narrow store is done.
 #[derive(Clone, Debug, PartialEq, Eq)]
 pub struct Column {
-    column: raw::Column,
+    held: raw::Places,
+    count: u16,
+    member: raw::Member,
 }
 
 impl Column {
@@ -343,7 +352,10 @@ impl Column {
         // SAFETY: the call takes every code and touches no memory of ours.
         let opened = unsafe { raw::bungero_open(code) };
         match opened.number {
-            0 => Ok(Column { column: opened.column }),
+            0 => {
+                let raw::Column { member, count, held } = opened.column;
+                Ok(Column { held, count, member })
+            }
             number => Err(Refused { number }),
         }
     }
@@ -351,10 +363,9 @@ impl Column {
     /// Enters a line at the end of the accepted ones; or 2 to 6, and the column is as before.
     pub fn enter(&mut self, line: Line) -> Result<(), Refused> {
         let Line { floor, class, load, area } = line;
-        let column = &mut self.column;
         // SAFETY: the column is one that opening gave, changed only by entering; its places are borrowed for us alone.
-        let entered = unsafe { raw::bungero_enter(&mut column.held, column.member, column.count, floor, class, load, area) };
-        column.count = entered.count;
+        let entered = unsafe { raw::bungero_enter(&mut self.held, self.member, self.count, floor, class, load, area) };
+        self.count = entered.count;
         match entered.number {
             0 => Ok(()),
             number => Err(Refused { number }),
@@ -363,9 +374,8 @@ impl Column {
 
     /// Asks at a floor; 7 where no accepted line has that floor.
     pub fn ask(&self, floor: u64) -> Result<Working, Refused> {
-        let column = &self.column;
         // SAFETY: the column is one that opening gave, changed only by entering; its places are only read.
-        let asked = unsafe { raw::bungero_ask(&column.held, column.member, column.count, floor) };
+        let asked = unsafe { raw::bungero_ask(&self.held, self.member, self.count, floor) };
         match asked.number {
             0 => Ok(Working { floors: asked.floors, influence: asked.influence, figure: asked.figure }),
             number => Err(Refused { number }),

@@ -11,10 +11,9 @@ mod reckoning;
 use bungero::{raw, Column, Line, Refused, Working};
 use random::Random;
 
-const PLACES: usize = 1024;
 const CANARIES: usize = 16; // watched on either side of the places
-const CANARY: u32 = 0xa5a5_a5a5;
-const MOST_LINES: usize = 256;
+const CANARY: u64 = 0xa5a5_a5a5_a5a5_a5a5;
+const MOST_LINES: usize = raw::LINES;
 
 // Numbers outside the limits of a floor, a class, a load and an area; some look right when cut to fewer bits.
 const OUTSIDE: [[u64; 5]; 4] = [
@@ -28,7 +27,7 @@ const OUTSIDE: [[u64; 5]; 4] = [
 struct RawColumn {
     member: raw::Member,
     count: u16,
-    lent: Vec<u32>, // the column's places, between canaries
+    lent: Vec<u64>, // the column's places, between canaries
 }
 
 impl RawColumn {
@@ -44,14 +43,14 @@ impl RawColumn {
     fn enter(&mut self, line: Line) -> u64 {
         let before = self.lent.clone();
         let Line { floor, class, load, area } = line;
-        let places = self.lent[CANARIES..].as_mut_ptr().cast::<[u32; PLACES]>();
+        let places = self.lent[CANARIES..].as_mut_ptr().cast::<raw::Places>();
         // SAFETY: the places are those that opening gave, changed only here, and the count is the last one given.
         let entered = unsafe { raw::bungero_enter(places, self.member, self.count, floor, class, load, area) };
         if entered.number != 0 {
             assert!(self.lent == before && entered.count == self.count, "a refused line changed the column");
             return entered.number;
         }
-        let mut beside = self.lent[..CANARIES].iter().chain(&self.lent[CANARIES + PLACES..]);
+        let mut beside = self.lent[..CANARIES].iter().chain(&self.lent[CANARIES + raw::LINES..]);
         assert!(beside.all(|&each| each == CANARY), "written past the places");
         assert_eq!(entered.count, self.count + 1, "an accepted line is not counted");
         self.count = entered.count;
@@ -61,7 +60,7 @@ impl RawColumn {
     // What asking gives; it changes nothing, and a refusal comes alone.
     fn ask(&self, floor: u64) -> Result<Working, Refused> {
         let before = self.lent.clone();
-        let places = self.lent[CANARIES..].as_ptr().cast::<[u32; PLACES]>();
+        let places = self.lent[CANARIES..].as_ptr().cast::<raw::Places>();
         // SAFETY: as in `enter`.
         let asked = unsafe { raw::bungero_ask(places, self.member, self.count, floor) };
         assert!(self.lent == before, "asking changed the column");

@@ -36,8 +36,8 @@ fn working(floors: u64, influence: u64, figure: u64) -> Working {
 fn try_layout() {
     layout!(Line, size 32, align 8, floor 0, class 8, load 16, area 24);
     layout!(Member, size 1, align 1, code 0);
-    layout!(Column, size 4100, align 4, member 0, count 2, held 4);
-    layout!(BungeroOpened, size 4112, align 8, number 0, column 8);
+    layout!(Column, size 2056, align 8, member 0, count 2, held 8);
+    layout!(BungeroOpened, size 2064, align 8, number 0, column 8);
     layout!(BungeroEntered, size 16, align 8, number 0, count 8);
     layout!(BungeroFigure, size 32, align 8, number 0, floors 8, influence 16, figure 24);
     layout!(BungeroReduced, size 16, align 8, number 0, reduced 8);

@@ -1,68 +1,77 @@
 -- A column is the column of its member and its lines: reading them back, and one line more.
 -- Assumes nothing.
 use mathlib.Core.Path.{_≡_, refl, sym, _∙_, ap}
-use mathlib.Core.List.{List, [], _∷_, _++_}
-use Prim.Native.Nat.{ℕ, suc, _+_, _*_, _-_, _≤_, _<_}
+use mathlib.Core.List.{List, [], _∷_, _++_, map, map-append, append-assoc}
+use Prim.Native.Nat.{ℕ, suc, _+_, _-_, _≤_, _<_}
 use native.Mathlib.Omega.{arith}
-use lib.ListN.{length, drop, replicate, length-append, length-replicate}
-use lib.Seq.{take-at, drop-append-add}
+use lib.ListN.{length, take, set, replicate, length-append, length-map, length-replicate}
+use lib.Seq.{take-at, set-at}
+use Rattle.lists.specs.Lists.{All, none, more}
+use Rattle.lists.proofs.Lists.{all-more, all-so}
 use Rattle.column.specs.declared.Line.{Line}
 use Rattle.column.specs.declared.Member.{Member}
 use Rattle.column.specs.declared.Column.{Column}
-use Rattle.column.specs.Line.{entriesOf, numbersOf}
+use Rattle.column.specs.Line.{line, packed, unpacked}
 use Rattle.column.specs.Column.{linesOf, columnOf, columnFrom}
-use Rattle.column.specs.Sound.{withLineAt}
+use Rattle.column.specs.Sound.{InLimits}
 
-numbers-lines : (ls : List Line) → entriesOf (numbersOf ls) ≡ ls
-unfolding entriesOf numbersOf
-numbers-lines [] = refl
-numbers-lines (l ∷ ls) = ap (λ (ks : List Line). l ∷ ks) (numbers-lines ls)
+four : {a b c d e f g h : ℕ} → e ≡ a → f ≡ b → g ≡ c → h ≡ d → line e f g h ≡ line a b c d
+four p q r s = rw (p, q, r, s)
 
-numbers-length : (ls : List Line) → length (numbersOf ls) ≡ 4 * length ls
-unfolding numbersOf
-numbers-length [] = refl
-numbers-length (l ∷ ls) = omega (arith, numbers-length ls)
+-- a line whose class, load and area have room in a number, as those of every number have, and a line within its limits
+record Fits (l : Line) : Type 0 where
+  class : l .class < 4
+  load : l .load < 65536
+  area : l .area .0 < 16777216
 
-numbers-more : (ls ks : List Line) → numbersOf (ls ++ ks) ≡ numbersOf ls ++ numbersOf ks
-unfolding numbersOf
-numbers-more [] ks = refl
-numbers-more (l ∷ ls) ks = ap (λ (ns : List ℕ). l .floor ∷ (l .class ∷ (l .load ∷ (l .area .0 ∷ ns)))) (numbers-more ls ks)
+within : (l : Line) → InLimits l → Fits l
+within l h = record { class = omega (arith, h .class); load = omega (arith, h .load); area = omega (arith, h .area) }
+
+unpacked-fit : (ns : List ℕ) → All Fits (map unpacked ns)
+unfolding unpacked
+unpacked-fit [] = none
+unpacked-fit (n ∷ ns) = more {x = unpacked n} (record { class = omega arith; load = omega arith; area = omega arith }) (unpacked-fit ns)
+
+-- it comes back from its number
+round : (l : Line) → Fits l → unpacked (packed l) ≡ l
+unfolding unpacked
+round l h = four (omega arith) (omega arith) (omega arith) (omega arith)
+
+all-round : {ls : List Line} → All Fits ls → map unpacked (map packed ls) ≡ ls
+all-round none = refl
+all-round (more {x} h a) = rw (round x h, all-round a)
 
 module _ (m : Member) (ls : List Line) where
   -- its lines are those it was made of
-  pub column-lines : linesOf (columnOf m ls) ≡ ls
+  lines-back : All Fits ls → linesOf (columnOf m ls) ≡ ls
   unfolding linesOf columnOf
-  column-lines = ap entriesOf (take-at (numbersOf ls) _ (4 * length ls) (numbers-length ls)) ∙ numbers-lines ls
+  lines-back a = ap (map unpacked) (take-at (map packed ls) _ (length ls) (length-map ls packed)) ∙ all-round a
 
-  -- it has places for 256 lines
-  pub column-size : length ls ≤ 256 → length (columnOf m ls .held) ≡ 1024
+  pub column-lines : All InLimits ls → linesOf (columnOf m ls) ≡ ls
+  column-lines a = lines-back (all-so within a)
+
+  -- it has 256 places
+  pub column-size : length ls ≤ 256 → length (columnOf m ls .held) ≡ 256
   unfolding columnOf
   column-size h =
-      length-append (numbersOf ls) (replicate (1024 - 4 * length ls) 0)
-      ∙ rw (numbers-length ls, length-replicate {A = ℕ} (1024 - 4 * length ls) 0) (omega arith)
+      length-append (map packed ls) (replicate (256 - length ls) 0)
+      ∙ rw (length-map ls packed, length-replicate {A = ℕ} (256 - length ls) 0) (omega arith)
 
--- a line put into the first unused place
-abbrev pub added : Column → Line → Column
-added c l = columnFrom (c .member) (c .count + 1) (withLineAt (c .held) (c .count) l)
-
-module _ (m : Member) (ls : List Line) (l : Line) (h : length ls < 256) where
-  rest : drop (4 * length ls + 4) (numbersOf ls ++ replicate (1024 - 4 * length ls) 0) ≡ replicate (1024 - 4 * (length ls + 1)) 0
-  rest =
-      let d = 1024 - 4 * (length ls + 1) in
-      let e : 1024 - 4 * length ls ≡ suc (suc (suc (suc d))) = omega arith in
-      ap (λ (n : ℕ). drop (n + 4) (numbersOf ls ++ replicate (1024 - 4 * length ls) 0)) (sym (numbers-length ls))
-      ∙ (drop-append-add (numbersOf ls) (replicate (1024 - 4 * length ls) 0) 4 ∙ ap (λ (n : ℕ). drop 4 (replicate n 0)) e)
-
-  places : withLineAt (numbersOf ls ++ replicate (1024 - 4 * length ls) 0) (length ls) l
-      ≡ numbersOf (ls ++ (l ∷ [])) ++ replicate (1024 - 4 * (length ls + 1)) 0
-  unfolding withLineAt
-  places =
-      let at = take-at (numbersOf ls) (replicate (1024 - 4 * length ls) 0) (4 * length ls) (numbers-length ls) in
-      rw (at, rest, numbers-more ls (l ∷ []))
-
-  -- it is the column with that line at the end of its lines
-  pub column-more : added (columnOf m ls) l ≡ columnOf m (ls ++ (l ∷ []))
+  -- a line put into the first unused place is at the end of its lines
+  pub column-more : (l : Line) → length ls < 256
+      → columnFrom m (length ls + 1) (set (columnOf m ls .held) (length ls) (packed l)) ≡ columnOf m (ls ++ (l ∷ []))
   unfolding columnOf
-  column-more =
+  column-more l h =
+      let n : 256 - length ls ≡ suc (256 - (length ls + 1)) = omega arith in
       let e : length (ls ++ (l ∷ [])) ≡ length ls + 1 = length-append ls (l ∷ []) in
-      rw (e, places)
+      let zeros : List ℕ = replicate (256 - (length ls + 1)) 0 in
+      let put : set (map packed ls ++ replicate (256 - length ls) 0) (length ls) (packed l) ≡ map packed (ls ++ (l ∷ [])) ++ zeros =
+      ap (λ (k : ℕ). set (map packed ls ++ replicate k 0) (length ls) (packed l)) n
+      ∙ (set-at (map packed ls) 0 zeros (packed l) (length ls) (length-map ls packed)
+      ∙ sym (ap (λ (ns : List ℕ). ns ++ zeros) (map-append packed ls (l ∷ [])) ∙ append-assoc (map packed ls) (packed l ∷ []) zeros)) in
+      rw (e, put)
+
+-- so are those of any column and one more
+pub more-lines : (m : Member) (c : Column) (l : Line) → InLimits l → linesOf (columnOf m (linesOf c ++ (l ∷ []))) ≡ linesOf c ++ (l ∷ [])
+unfolding linesOf
+more-lines m c l h = lines-back m (linesOf c ++ (l ∷ [])) (all-more (unpacked-fit (take (c .count) (c .held))) (within l h))

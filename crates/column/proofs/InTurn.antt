@@ -8,7 +8,7 @@ use Rattle.column.specs.declared.Column.{Column}
 use Rattle.column.specs.Accepted.{entryNumber, accepted}
 use Rattle.column.specs.Column.{linesOf, columnOf, Reached}
 use Rattle.column.proofs.Columns.{column-lines}
-use Rattle.column.proofs.Reach.{accepted-all, reached-column}
+use Rattle.column.proofs.Reach.{Holdable, holdable-none, holdable-more, accepted-all, accepted-holdable, reached-column}
 
 -- lines that are accepted in turn: none, or such lines and one more that is accepted after them
 pub data AcceptedInTurn (m : Member) : List Line → Type 0 where
@@ -21,4 +21,9 @@ unfolding columnOf
 reached-in-turn r =
     let m = r .member in
     subst⁻¹ (λ (d : Column). AcceptedInTurn (d .member) (linesOf d)) (reached-column r)
-    (rw (column-lines m (accepted m (r .entries))) (accepted-all m (AcceptedInTurn m) more [] (r .entries) none))
+    (rw (column-lines m (accepted m (r .entries)) (accepted-holdable m (r .entries) .lines)) (accepted-all m (AcceptedInTurn m) more [] (r .entries) none))
+
+-- they may be held
+pub in-turn-holdable : {m : Member} {ls : List Line} → AcceptedInTurn m ls → Holdable ls
+in-turn-holdable none = holdable-none
+in-turn-holdable {m} (more ls l a e) = holdable-more m ls l (in-turn-holdable a) e

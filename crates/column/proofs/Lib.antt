@@ -1,7 +1,7 @@
 -- Laws of the definitions, for the proofs here and in the crates above.
-pub mod Lists
 pub mod Lines
 pub mod Columns
 pub mod Reach
 pub mod InTurn
 pub mod Entries
+pub mod Entering

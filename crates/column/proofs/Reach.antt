@@ -9,7 +9,7 @@ use lib.Dec.{leb, ltb, eqb}
 use lib.ListN.{length, length-append}
 use borrow.Author.Tests.{leb-false, ltb-false, eqb-true, ne-eqb, not-false}
 use Rattle.member.specs.Numbers.{between}
-use Rattle.refusal.specs.Lists.{All, none}
+use Rattle.lists.specs.Lists.{All, none}
 use Rattle.member.proofs.Tests.{limits}
 use Rattle.column.specs.declared.Line.{Line}
 use Rattle.column.specs.declared.Member.{Member}
@@ -17,7 +17,8 @@ use Rattle.column.specs.declared.Column.{Column}
 use Rattle.column.specs.Accepted.{lastFloor, firstCondition, entryNumber, joined, acceptedFrom, accepted}
 use Rattle.column.specs.Column.{linesOf, columnOf, unopened, openedOf, enteredOf, after, Reached}
 use Rattle.column.specs.Sound.{InLimits, Sound}
-use Rattle.column.proofs.Lists.{all-more}
+use Rattle.lists.proofs.Lists.{all-more}
+use Rattle.lists.proofs.Tests.{cases}
 use Rattle.column.proofs.Columns.{column-lines, column-size}
 
 -- where the number is 0, a condition that has a number does not hold, and the number of the later ones is 0
@@ -68,11 +69,8 @@ pub record Holdable (ls : List Line) : Type 0 where
 module _ (m : Member) (P : List Line → Type 0) (step : (ls : List Line) (l : Line) → P ls → entryNumber m ls l ≡ 0 → P (ls ++ (l ∷ []))) where
   joined-all : (ls : List Line) (l : Line) → P ls → P (joined m ls l)
   unfolding joined
-  joined-all ls l h = go (eqb (entryNumber m ls l) 0) refl
-    where
-      go : (b : Bool) → eqb (entryNumber m ls l) 0 ≡ b → P (cond b (ls ++ (l ∷ [])) ls)
-      go true e = step ls l h (eqb-true (entryNumber m ls l) 0 e)
-      go false e = h
+  joined-all ls l h =
+      cases (λ (b : Bool). P (cond b (ls ++ (l ∷ [])) ls)) (eqb (entryNumber m ls l) 0) (λ e. step ls l h (eqb-true (entryNumber m ls l) 0 e)) (λ e. h)
 
   -- it is true of the accepted lines, where it is of those that there were
   pub accepted-all : (ls es : List Line) → P ls → P (acceptedFrom m ls es)
@@ -81,14 +79,17 @@ module _ (m : Member) (P : List Line → Type 0) (step : (ls : List Line) (l : L
   accepted-all ls (e ∷ es) h = accepted-all (joined m ls e) es (joined-all ls e h)
 
 -- the accepted lines are at most 256, and each is within its limits
-pub accepted-holdable : (m : Member) (es : List Line) → Holdable (accepted m es)
+pub holdable-none : Holdable []
+holdable-none = record { few = omega arith; lines = none }
+
+pub holdable-more : (m : Member) (ls : List Line) (l : Line) → Holdable ls → entryNumber m ls l ≡ 0 → Holdable (ls ++ (l ∷ []))
 unfolding entryNumber
-accepted-holdable m es = accepted-all m Holdable more [] es (record { few = omega arith; lines = none })
-  where
-    more : (ls : List Line) (l : Line) → Holdable ls → entryNumber m ls l ≡ 0 → Holdable (ls ++ (l ∷ []))
-    more ls l h e =
-        let ok = no-condition m (length ls) (lastFloor ls) l e in
-        record { few = omega (arith, length-append ls (l ∷ []), ok .0); lines = all-more (h .lines) (ok .1) }
+holdable-more m ls l h e =
+    let ok = no-condition m (length ls) (lastFloor ls) l e in
+    record { few = omega (arith, length-append ls (l ∷ []), ok .0); lines = all-more (h .lines) (ok .1) }
+
+pub accepted-holdable : (m : Member) (es : List Line) → Holdable (accepted m es)
+accepted-holdable m es = accepted-all m Holdable (holdable-more m) [] es holdable-none
 
 module _ (c : Column) (l : Line) where
   -- entering a line where no condition holds
@@ -103,19 +104,17 @@ module _ (c : Column) (l : Line) where
   entered-refused n h e = rw (e, ne-eqb n 0 (λ q. omega arith))
 
 -- entering a line on the column of some lines gives the column of the lines that are then accepted
-entered-column : (m : Member) (ls : List Line) (l : Line) → enteredOf (columnOf m ls) l .column ≡ columnOf m (joined m ls l)
+entered-column : (m : Member) (ls : List Line) (l : Line) → Holdable ls → enteredOf (columnOf m ls) l .column ≡ columnOf m (joined m ls l)
 unfolding enteredOf joined columnOf
-entered-column m ls l = rw (column-lines m ls) (go (eqb (entryNumber m ls l) 0))
-  where
-    go : (b : Bool) → cond b (columnOf m (ls ++ (l ∷ []))) (columnOf m ls) ≡ columnOf m (cond b (ls ++ (l ∷ [])) ls)
-    go true = refl
-    go false = refl
+entered-column m ls l h =
+    rw (column-lines m ls (h .lines))
+    (cases (λ (b : Bool). cond b (columnOf m (ls ++ (l ∷ []))) (columnOf m ls) ≡ columnOf m (cond b (ls ++ (l ∷ [])) ls)) (eqb (entryNumber m ls l) 0) (λ e. refl) (λ e. refl))
 
-after-column : (m : Member) (ls es : List Line) → after (columnOf m ls) es ≡ columnOf m (acceptedFrom m ls es)
+after-column : (m : Member) (ls es : List Line) → Holdable ls → after (columnOf m ls) es ≡ columnOf m (acceptedFrom m ls es)
 unfolding after acceptedFrom
-after-column m ls [] = refl
-after-column m ls (e ∷ es) =
-    ap (λ (c : Column). after c es) (entered-column m ls e) ∙ after-column m (joined m ls e) es
+after-column m ls [] h = refl
+after-column m ls (e ∷ es) h =
+    ap (λ (c : Column). after c es) (entered-column m ls e h) ∙ after-column m (joined m ls e) es (joined-all m Holdable (holdable-more m) ls e h)
 
 module _ (m : Member) where
   opened-cases : (b : Bool) → between 1 12 (m .code) ≡ b → openedOf m .number ≡ 0
@@ -143,12 +142,12 @@ module _ (m : Member) where
 
   -- the column after a list of entries is that of the accepted lines
   pub after-opened : (es : List Line) → openedOf m .number ≡ 0 → after (openedOf m .column) es ≡ columnOf m (accepted m es)
-  after-opened es h = ap (λ (c : Column). after c es) (opened-column h) ∙ after-column m [] es
+  after-opened es h = ap (λ (c : Column). after c es) (opened-column h) ∙ after-column m [] es holdable-none
 
 sound-column : (m : Member) (ls : List Line) → between 1 12 (m .code) ≡ true → Holdable ls → Sound (columnOf m ls)
-unfolding columnOf
+unfolding columnOf linesOf
 sound-column m ls e h =
-    record { code = e; few = h .few; size = column-size m ls (h .few); lines = rw (column-lines m ls) (h .lines) }
+    record { code = e; held = record { few = h .few; size = column-size m ls (h .few); lines = subst⁻¹ (All InLimits) (column-lines m ls (h .lines)) (h .lines) } }
 
 -- a reached column is that of its accepted lines
 pub reached-column : {c : Column} (r : Reached c) → c ≡ columnOf (r .member) (accepted (r .member) (r .entries))
@@ -160,6 +159,11 @@ sound r =
     let m = r .member in
     subst⁻¹ Sound (reached-column r) (sound-column m (accepted m (r .entries)) (opened-code m (r .opened)) (accepted-holdable m (r .entries)))
 
+-- each of its lines is within its limits
+pub sound-lines : {c : Column} → Sound c → All InLimits (linesOf c)
+unfolding linesOf
+sound-lines ok = ok .held .lines
+
 -- a reached column is that of its member and its lines, so its unused places are as opening left them
 pub reached-is : {c : Column} → Reached c → c ≡ columnOf (c .member) (linesOf c)
 unfolding columnOf
@@ -168,7 +172,7 @@ reached-is {c} r =
     let ls = accepted m (r .entries) in
     let e : c ≡ columnOf m ls = reached-column r in
     e
-    ∙ (ap (columnOf m) (sym (ap linesOf e ∙ column-lines m ls))
+    ∙ (ap (columnOf m) (sym (ap linesOf e ∙ column-lines m ls (accepted-holdable m (r .entries) .lines)))
     ∙ ap (λ (k : Member). columnOf k (linesOf c)) (sym (ap (λ (d : Column). d .member) e)))
 
 -- so two with the same member and the same lines are one value

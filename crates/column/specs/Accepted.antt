@@ -8,6 +8,7 @@ use lib.ListN.{length}
 use Rattle.member.specs.Numbers.{between}
 use Rattle.column.specs.declared.Line.{Line}
 use Rattle.column.specs.declared.Member.{Member}
+use Rattle.column.specs.Line.{mostLines, lowestFloor}
 
 -- 01, Numbers by the place of checking: the floor of the last accepted line; 0 where there is none, which no floor is below
 unfoldable pub lastFloor : List Line → ℕ
@@ -19,8 +20,8 @@ lastFloor (l ∷ (k ∷ ls)) = lastFloor (k ∷ ls)
 -- The count and the last floor are those of the accepted lines so far; no condition of 01 looks at the member
 unfoldable pub firstCondition : Member → ℕ → ℕ → Line → ℕ
 firstCondition m count last l =
-    cond (leb 256 count) 2
-    (cond (not (between 1 64 (l .floor)) || ltb (l .floor) last) 3
+    cond (leb mostLines count) 2
+    (cond (not (between 1 lowestFloor (l .floor)) || ltb (l .floor) last) 3
     (cond (not (between 1 3 (l .class))) 4
     (cond (not (between 1 50000 (l .load))) 5
     (cond (not (between 1 200000 (l .area .0))) 6

@@ -2,8 +2,8 @@
 -- Assumes nothing.
 use mathlib.Core.Path.{_≡_}
 use mathlib.Core.Bool.{cond}
-use mathlib.Core.List.{List, [], _∷_, _++_}
-use Prim.Native.Nat.{ℕ, _+_, _*_, _-_}
+use mathlib.Core.List.{List, [], _∷_, _++_, map}
+use Prim.Native.Nat.{ℕ, _-_}
 use lib.Dec.{eqb}
 use lib.ListN.{length, take, replicate}
 use Rattle.refusal.specs.Refusal.{numberOf}
@@ -15,17 +15,21 @@ use Rattle.column.specs.declared.Verdict.{Verdict}
 use Rattle.column.specs.declared.Verdict.the-variants.{Accepted, Refused}
 use Rattle.column.specs.declared.Changed.{Changed}
 use Rattle.column.specs.declared.Joined.{Joined}
-use Rattle.column.specs.Line.{line, entriesOf, numbersOf}
+use Rattle.column.specs.Line.{mostLines, packed, unpacked}
 use Rattle.column.specs.Accepted.{entryNumber}
 
 -- 01, Reduced load and figure: the accepted lines of a column, in order
 unfoldable pub linesOf : Column → List Line
-linesOf c = entriesOf (take (4 * c .count) (c .held))
+linesOf c = map unpacked (take (c .count) (c .held))
 
 -- 01, Reduced load and figure: the column of a member with these accepted lines. How it holds them is not of the paper: first
--- their numbers, then unused places
+-- each as one number, then unused places
 unfoldable pub columnOf : Member → List Line → Column
-columnOf m ls = record { member = m; count = length ls; held = numbersOf ls ++ replicate (1024 - 4 * length ls) 0 }
+columnOf m ls = record { member = m; count = length ls; held = map packed ls ++ replicate (mostLines - length ls) 0 }
+
+-- no part of the paper has it: the places of a column without lines
+abbrev pub noPlaces : List ℕ
+noPlaces = replicate mostLines 0
 
 -- no part of the paper has it: the column that a member, a count of lines and its places make, which a call in place takes
 -- instead of the column

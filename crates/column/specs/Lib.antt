@@ -2,4 +2,5 @@
 pub mod Line
 pub mod Accepted
 pub mod Column
+pub mod Entering
 pub mod Sound

@@ -1,7 +1,7 @@
--- Paper 01, "Member, line, floor": a line, and lines as numbers, four a line.
+-- Paper 01, "Member, line, floor": a line, the entries of a list of numbers, and a line as one number.
 -- Assumes nothing.
 use mathlib.Core.List.{List, [], _∷_}
-use Prim.Native.Nat.{ℕ}
+use Prim.Native.Nat.{ℕ, _+_, _*_, _/_, _%_}
 use Rattle.column.specs.declared.Line.{Line}
 
 -- 01, Member, line, floor: a line's four numbers
@@ -17,7 +17,21 @@ entriesOf (f ∷ (c ∷ [])) = []
 entriesOf (f ∷ []) = []
 entriesOf [] = []
 
--- 01, Member, line, floor: the numbers of some lines, four a line
-unfoldable pub numbersOf : List Line → List ℕ
-numbersOf [] = []
-numbersOf (l ∷ ls) = l .floor ∷ (l .class ∷ (l .load ∷ (l .area .0 ∷ numbersOf ls)))
+-- 01, Member, line, floor: "A member holds at most 256 lines", and a floor is "1 to 64"
+abbrev pub mostLines : ℕ
+mostLines = 256
+
+abbrev pub lowestFloor : ℕ
+lowestFloor = 64
+
+-- no part of the paper has it: a line as one number, its floor from 2⁵⁰ on, its class from 2⁴⁸, its load from 2³² and its area below
+-- 2²⁴; from 2²⁴ to 2³² and from 2⁵⁷ on there is room for what a line may get later. A line within its limits comes back (`round`)
+abbrev pub packed : Line → ℕ
+packed l = l .floor * 1125899906842624 + l .class * 281474976710656 + l .load * 4294967296 + l .area .0
+
+unfoldable pub unpacked : ℕ → Line
+unpacked n = line (n / 1125899906842624) (n / 281474976710656 % 4) (n / 4294967296 % 65536) (n % 16777216)
+
+-- no part of the paper has it: the class and the load of the line that a number holds, as one number in their order
+abbrev pub keyOf : ℕ → ℕ
+keyOf n = n / 4294967296 % 262144

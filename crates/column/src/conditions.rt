@@ -8,15 +8,18 @@ use crate::Verdict;
 use member::limits;
 use refusal::Refusal;
 
+// The most lines, as wide as a count.
+const MOST_LINES: u64 = crate::LINES as u64;
+
 // The first condition that holds for a line, where a member holds so many lines and the last one has
 // this floor. None of paper 01's looks at the member.
 pub fn verdict_of(member: Member, count: u64, last: u64, line: Line) -> Verdict
     ensures { λ r. ⌜ verdictNumber r ≡ firstCondition member count last line ⌝ }
 {
-    if 256 <= count {
+    if MOST_LINES <= count {
         return Verdict::Refused(Refusal::TooManyLines);
     }
-    if !limits::is_between(1, 64, line.floor) {
+    if !limits::is_between(1, crate::LOWEST_FLOOR, line.floor) {
         return Verdict::Refused(Refusal::FloorOutOfRange);
     }
     if line.floor < last {

@@ -2,7 +2,8 @@
 ghost use mathlib.Core.Path.{_≡_};
 ghost use mathlib.Core.List.{[]};
 ghost use Prim.Native.Nat.{_+_};
-ghost use Rattle.column.specs.Accepted.{lastFloor, firstCondition};
+ghost use Rattle.column.specs.Accepted.{lastFloor};
+ghost use Rattle.column.specs.Line.{unpacked, keyOf};
 ghost use Rattle.column.specs.Column.{linesOf, columnOf, columnFrom, memberOf, openedOf, enteredOf, Reached, verdictNumber, outcome, joinedOutcome};
 use member::TributaryArea;
 use member::limits;
@@ -10,6 +11,15 @@ use refusal::Refusal;
 
 mod conditions;
 mod places;
+
+// The most lines that a member holds.
+pub const LINES: usize = 256;
+
+// The lowest floor that a line can have; the top one is 1.
+pub const LOWEST_FLOOR: u64 = 64;
+
+// The places of a column's lines, each line as one number.
+pub type Places = [u64; LINES];
 
 // A line as a caller hands it over, each number as wide as it comes.
 #[repr(C)]
@@ -26,12 +36,12 @@ pub struct Member {
     pub code: u8,
 }
 
-// A member and its accepted lines, in the order in which they were entered, four numbers a line.
+// A member and its accepted lines, in the order in which they were entered.
 #[repr(C)]
 pub struct Column {
     pub member: Member,
     pub count: u16,
-    pub held: [u32; 1024],
+    pub held: Places,
 }
 
 // Whether a member was opened or a line entered, or why not.
@@ -62,6 +72,25 @@ pub fn verdict_number(verdict: Verdict) -> u64
     }
 }
 
+// The line that a number holds.
+pub fn line_of(number: u64) -> Line
+    ensures { λ r. ⌜ r ≡ unpacked number ⌝ }
+{
+    Line {
+        floor: number / 1125899906842624,
+        class: number / 281474976710656 % 4,
+        load: number / 4294967296 % 65536,
+        area: TributaryArea(number % 16777216),
+    }
+}
+
+// The class and the load of the line that a number holds, as one number in their order.
+pub fn key_of(number: u64) -> u64
+    ensures { λ r. ⌜ r ≡ keyOf number ⌝ }
+{
+    number / 4294967296 % 262144
+}
+
 // A column without lines.
 fn fresh(code: u8) -> Column
     ensures { λ r. ⌜ r ≡ columnOf (memberOf code) [] ⌝ }
@@ -69,7 +98,7 @@ fn fresh(code: u8) -> Column
     Column {
         member: Member { code: code },
         count: 0,
-        held: [0; 1024],
+        held: [0; LINES],
     }
 }
 
@@ -103,33 +132,26 @@ pub fn open(code: u64) -> Changed
 
 // The floor of the last accepted line of the column that a member, a count and its places make; 0
 // where there is none.
-pub fn last_floor(held: &[u32; 1024], member: Member, count: u16) -> u64
+pub fn last_floor(held: &Places, member: Member, count: u16) -> u64
     requires { ⌜ Reached (columnFrom member count (now held)) ⌝ }
     ensures { λ r. ⌜ r ≡ lastFloor (linesOf (columnFrom member count (now (held .entry)))) ⌝ }
 {
-    places::last_floor_of(held, member, count)
-}
-
-// Whether a line would be accepted, for a caller that keeps no column: where a member holds so many
-// lines and the last one has this floor.
-pub fn verdict_at(member: Member, count: u64, last: u64, line: Line) -> Verdict
-    ensures { λ r. ⌜ verdictNumber r ≡ firstCondition member count last line ⌝ }
-{
-    conditions::verdict_of(member, count, last, line)
+    places::last_floor_of(held, count)
 }
 
 // Enters a line in place: on the column that a member, a count and its places make, which gets one line
 // more; refused, with the places as they were, where a condition for entering a line holds.
-pub fn enter_in(held: &mut [u32; 1024], member: Member, count: u16, line: Line) -> Joined
+pub fn enter_in(held: &mut Places, member: Member, count: u16, line: Line) -> Joined
     requires { ⌜ Reached (columnFrom member count (now held)) ⌝ }
     ensures { λ r. ⌜ joinedOutcome member r (now (held .exit)) ≡ enteredOf (columnFrom member count (now (held .entry))) line ⌝ }
     ensures { λ r. ⌜ Reached (columnFrom member (r .count) (now (held .exit))) ⌝ }
 {
-    let last = places::last_floor_of(held, member, count);
+    let last = places::last_floor_of(held, count);
     let verdict = conditions::verdict_of(member, count as u64, last, line);
     match verdict {
         Verdict::Accepted => {
-            places::put_line(held, count as usize, line);
+            let at = count as usize;
+            held[at] = places::number_of(line);
             Joined {
                 verdict: verdict,
                 count: count + 1,

@@ -1,40 +1,30 @@
-// The places of a column, four numbers a line: its floor, class, load and area.
+// The places of a column, a line in each as one number.
 ghost use mathlib.Core.Path.{_≡_};
-ghost use Prim.Native.Nat.{_<_};
-ghost use lib.ListN.{length};
 ghost use Rattle.column.specs.Accepted.{lastFloor};
-ghost use Rattle.column.specs.Column.{columnFrom, linesOf};
-ghost use Rattle.column.specs.Sound.{InLimits, Sound, withLineAt};
+ghost use Rattle.column.specs.Line.{packed};
+ghost use Rattle.column.specs.Sound.{InLimits, Held, linesBefore};
 use crate::Line;
-use crate::Member;
+use crate::Places;
 
-// A number of a place, as wide as a caller's.
-fn wide(n: u32) -> u64
-    ensures { λ r. ⌜ r ≡ n ⌝ }
+// The number that holds a line.
+pub fn number_of(line: Line) -> u64
+    requires { ⌜ InLimits line ⌝ }
+    ensures { λ r. ⌜ r ≡ packed line ⌝ }
 {
-    n as u64
-}
-
-// Puts a line at an index, counted from 0.
-pub fn put_line(held: &mut [u32; 1024], index: usize, line: Line)
-    requires { ⌜ (length (now held) ≡ 1024) × (index < 256) × InLimits line ⌝ }
-    ensures { λ _. ⌜ now (held .exit) ≡ withLineAt (now (held .entry)) index line ⌝ }
-{
-    let at = 4 * index;
-    held[at] = line.floor as u32;
-    held[at + 1] = line.class as u32;
-    held[at + 2] = line.load as u32;
-    held[at + 3] = line.area.0 as u32;
+    line.floor * 1125899906842624
+        + line.class * 281474976710656
+        + line.load * 4294967296
+        + line.area.0
 }
 
 // The floor of the last of so many lines; 0 where there is none.
-pub fn last_floor_of(held: &[u32; 1024], member: Member, count: u16) -> u64
-    requires { ⌜ Sound (columnFrom member count (now held)) ⌝ }
-    ensures { λ r. ⌜ r ≡ lastFloor (linesOf (columnFrom member count (now (held .entry)))) ⌝ }
+pub fn last_floor_of(held: &Places, count: u16) -> u64
+    requires { ⌜ Held (now held) count ⌝ }
+    ensures { λ r. ⌜ r ≡ lastFloor (linesBefore (now (held .entry)) count) ⌝ }
 {
     if count == 0 {
         return 0;
     }
-    let at = 4 * (count as usize - 1);
-    wide(held[at])
+    let at = count as usize - 1;
+    crate::line_of(held[at]).floor
 }

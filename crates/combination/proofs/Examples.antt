@@ -1,5 +1,5 @@
 -- Paper 01's combination cases hold: the doubles are taken, and the search computes. Assumes nothing.
-use Rattle.refusal.specs.Lists.{All, none, more}
+use Rattle.lists.specs.Lists.{All, none, more}
 use Rattle.newtons.specs.Effect.{limit}
 use Rattle.effects.specs.Check.{placeOf, newtonsOf}
 use Rattle.combination.specs.Factors.{combinations, factorIn, factors}

@@ -13,7 +13,8 @@ use Rattle.reduction.specs.declared.InfluenceArea.{InfluenceArea}
 use Rattle.reduction.specs.declared.share.Share.{Share}
 use Rattle.reduction.specs.declared.share.Share.the-variants.{Twentieths, Root}
 use Rattle.reduction.specs.Numbers.{sq}
-use Rattle.refusal.specs.Lists.{All, none, more}
+use Rattle.lists.proofs.Tests.{cases}
+use Rattle.lists.specs.Lists.{All, none, more, keep, total}
 use Rattle.member.specs.Line.{isFormula}
 use Rattle.reduction.specs.Share.{formulaShare, otherTwentieths, shareOf, AtMostOne}
 use Rattle.reduction.specs.Reduced.{reaches, reduced}
@@ -22,12 +23,11 @@ use Rattle.reduction.proofs.Shares.{formula-at-most-one, other-within}
 use Rattle.reduction.proofs.Reduced.{reduced-reaches, below-does-not}
 use Rattle.column.specs.declared.Line.{Line}
 use Rattle.column.specs.declared.Member.{Member}
-use Rattle.figure.specs.Lists.{keep, total}
 use Rattle.figure.specs.Carried.{isFormulaLine, formulaLines, otherLines, floorsOf, areaOf, influenceOf}
 use Rattle.figure.specs.Figure.{lineFigure, figureOf}
 use Rattle.demand3.specs.Demand3.{formulaTotal, twentyP, NotBelowExact, BelowExactPlus, Within, exactShare, Bounded}
 use Rattle.column.specs.Sound.{InLimits}
-use Rattle.figure.proofs.Lists.{total-keep}
+use Rattle.lists.proofs.Lists.{total-keep}
 use Rattle.demand3.proofs.Roots.{root-le, below-sum}
 
 -- 20 r area − 5 load area is 5 (4 r − load) area, and its square with X
@@ -135,15 +135,13 @@ other-one class n = other-within class n .1
 line-within : (n : ℕ) (x : InfluenceArea) (l : Line) → 1 ≤ l .area .0
     → Within (formulaShare n x) (formulaPart l) (otherPart n l) (l .area .0) (lineFigure n x l)
 unfolding lineFigure formulaPart otherPart isFormulaLine shareOf
-line-within n x l pos = go (isFormula (l .load) (l .class))
-  where
-    go : (b : Bool) → Within (formulaShare n x) (cond b (l .load * l .area .0) 0)
-        (cond (not b) (otherTwentieths (l .class) n * (l .load * l .area .0)) 0) (l .area .0)
-        (reduced (cond b (formulaShare n x) (Twentieths (otherTwentieths (l .class) n))) (l .load) * l .area .0)
-    go true = rounded (formulaShare n x) (l .load) (l .area .0) (formula-at-most-one n x) pos
-    go false =
-        beside (formulaShare n x) (otherTwentieths (l .class) n) (l .load * l .area .0) (l .area .0) _
-        (rounded (Twentieths (otherTwentieths (l .class) n)) (l .load) (l .area .0) (other-one (l .class) n) pos)
+line-within n x l pos =
+    cases (λ (b : Bool). Within (formulaShare n x) (cond b (l .load * l .area .0) 0)
+    (cond (not b) (otherTwentieths (l .class) n * (l .load * l .area .0)) 0) (l .area .0)
+    (reduced (cond b (formulaShare n x) (Twentieths (otherTwentieths (l .class) n))) (l .load) * l .area .0)) (isFormula (l .load) (l .class))
+    (λ e. rounded (formulaShare n x) (l .load) (l .area .0) (formula-at-most-one n x) pos)
+    (λ e. beside (formulaShare n x) (otherTwentieths (l .class) n) (l .load * l .area .0) (l .area .0) _
+    (rounded (Twentieths (otherTwentieths (l .class) n)) (l .load) (l .area .0) (other-one (l .class) n) pos))
 
 -- T and 20P of no line, and of one line more
 formula-none : formulaTotal [] ≡ 0
@@ -181,11 +179,9 @@ no-root (Root x) p a f w = record { low = omega (arith, w .low .0); high = ⊎-e
 
 exact : (s : Share) (t p a f : ℕ) → Within s t p a f → Within (exactShare t s) t p a f
 unfolding exactShare
-exact s t p a f w = go (eqb t 0) refl
-  where
-    go : (b : Bool) → eqb t 0 ≡ b → Within (cond b (Twentieths 20) s) t p a f
-    go true e = rw (eqb-true t 0 e) (no-root s p a f (rw (eqb-true t 0 e) at w))
-    go false e = w
+exact s t p a f w =
+    cases (λ (b : Bool). Within (cond b (Twentieths 20) s) t p a f) (eqb t 0)
+    (λ e. rw (eqb-true t 0 e) (no-root s p a f (rw (eqb-true t 0 e) at w))) (λ e. w)
 
 -- E ≤ F < E + A, for one line or more within their limits
 pub bounded : (m : Member) (l : Line) (ls : List Line) → All InLimits (l ∷ ls) → Bounded m (l ∷ ls) (figureOf m (l ∷ ls))

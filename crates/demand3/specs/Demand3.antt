@@ -16,7 +16,7 @@ use Rattle.reduction.specs.Share.{formulaShare, otherTwentieths}
 use Rattle.column.specs.declared.Line.{Line}
 use Rattle.column.specs.declared.Member.{Member}
 use Rattle.figure.specs.declared.Working.{Working}
-use Rattle.figure.specs.Lists.{total}
+use Rattle.lists.specs.Lists.{total}
 use Rattle.figure.specs.Carried.{formulaLines, otherLines, carried, hasFloor, floorsOf, areaOf, influenceOf}
 use Rattle.column.specs.Accepted.{accepted}
 use Rattle.column.specs.Column.{openedOf, after}
@@ -70,19 +70,18 @@ Bounded m ls F =
     Within (exactShare (formulaTotal ls) (formulaShare (floorsOf ls) (influenceOf m ls)))
     (formulaTotal ls) (twentyP (floorsOf ls) ls) (areaOf ls) F
 
--- 01, Reduced load and figure: an answer at floor f gives a figure F, and that is within the bounds, the accepted lines being
--- those that follow from the member and the entries alone
-pub record Answered (m : Member) (entries : List Line) (f : ℕ) (answer : Said Working) : Type 0 where
+-- 01, Reduced load and figure: an answer at floor f, for these accepted lines, gives a figure F, and that is within the bounds
+pub record Answered (m : Member) (ls : List Line) (f : ℕ) (answer : Said Working) : Type 0 where
   pub working : Working
   pub given : answer ≡ gives working
-  pub bounded : Bounded m (carried f (accepted m entries)) (working .figure)
+  pub bounded : Bounded m (carried f ls) (working .figure)
 
 -- 01, Reduced load and figure: demand 3 of one answer, for a member that is opened and a floor that has an accepted line
 unfoldable pub Claim : Member → List Line → ℕ → Said Working → Type 0
-Claim m entries f answer =
-    openedOf m .number ≡ 0 → hasFloor f (accepted m entries) ≡ true → Answered m entries f answer
+Claim m ls f answer = openedOf m .number ≡ 0 → hasFloor f ls ≡ true → Answered m ls f answer
 
 -- 01, Reduced load and figure: demand 3, for every member, every list of entries, refused ones among them, and every floor:
--- the answer is what asking at the floor gives after the whole list. It is proved in proofs/Demand3.antt
+-- the answer is what asking at the floor gives after the whole list, and the accepted lines follow from the member and the
+-- entries alone. It is proved in proofs/Demand3.antt
 abbrev pub Demand3 : Type 0
-Demand3 = (m : Member) (entries : List Line) (f : ℕ) → Claim m entries f (asked (after (openedOf m .column) entries) f)
+Demand3 = (m : Member) (entries : List Line) (f : ℕ) → Claim m (accepted m entries) f (asked (after (openedOf m .column) entries) f)

@@ -3,6 +3,7 @@ ghost use mathlib.Core.Path.{_≡_};
 ghost use mathlib.Core.List.{_∷_};
 ghost use Prim.Native.Nat.{_+_, _≤_};
 ghost use lib.ListN.{drop};
+ghost use Rattle.column.specs.Accepted.{accepted};
 ghost use Rattle.column.specs.Column.{memberOf, after, Reached};
 ghost use Rattle.figure.specs.Asked.{saidWorking};
 ghost use Rattle.column.specs.Line.{entriesOf};
@@ -44,7 +45,7 @@ fn entered_all(column: Column, entries: &[u64]) -> Column
 // Opens a member, enters every entry of a list of numbers, four an entry, going on past refused ones,
 // and asks at a floor. One to three numbers left over at the end of the list are no entry.
 pub fn figure_after(code: u64, entries: &[u64], floor: u64) -> Asked
-    ensures { λ r. ⌜ (saidWorking r ≡ askedAfter (memberOf code) (entriesOf (now (entries .entry))) floor) × Claim (memberOf code) (entriesOf (now (entries .entry))) floor (saidWorking r) ⌝ }
+    ensures { λ r. ⌜ (saidWorking r ≡ askedAfter (memberOf code) (entriesOf (now (entries .entry))) floor) × Claim (memberOf code) (accepted (memberOf code) (entriesOf (now (entries .entry)))) floor (saidWorking r) ⌝ }
 {
     let opened = column::open(code);
     let verdict = opened.verdict;

@@ -20,7 +20,7 @@ use Rattle.exports.specs.declared.combinations.BungeroCombined.{BungeroC
 use Rattle.exports.specs.declared.columns.BungeroOpened.{BungeroOpened}
 use Rattle.exports.specs.declared.columns.BungeroEntered.{BungeroEntered}
 use Rattle.exports.specs.declared.columns.BungeroFigure.{BungeroFigure}
-use Rattle.exports.specs.declared.lists.BungeroListed.{BungeroListed}
+use Rattle.exports.specs.declared.listed.BungeroListed.{BungeroListed}
 use Rattle.exports.specs.declared.reductions.BungeroReduced.{BungeroReduced}
 
 -- 01, Numbers by the place of checking: the number, 0 where no condition holds, and the column

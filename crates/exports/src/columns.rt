@@ -7,6 +7,7 @@ ghost use Rattle.exports.specs.Exported.{outcomeOf, enteredIn, shownOf};
 use column::Column;
 use column::Line;
 use column::Member;
+use column::Places;
 use figure::Asked;
 use member::TributaryArea;
 
@@ -51,7 +52,7 @@ pub extern "C" fn bungero_open(code: u64) -> BungeroOpened
 // Enters a line on the column of this member with so many lines, whose numbers are in the lent places.
 #[no_mangle]
 pub extern "C" fn bungero_enter(
-    held: &mut [u32; 1024],
+    held: &mut Places,
     member: Member,
     count: u16,
     floor: u64,
@@ -80,7 +81,7 @@ pub extern "C" fn bungero_enter(
 // Asks at a floor of such a column.
 #[no_mangle]
 pub extern "C" fn bungero_ask(
-    held: &[u32; 1024],
+    held: &Places,
     member: Member,
     count: u16,
     floor: u64,

@@ -2,6 +2,6 @@
 pub mod checks;
 pub mod columns;
 pub mod combinations;
-pub mod lists;
+pub mod listed;
 pub mod reductions;
 pub mod reports;

@@ -1,11 +1,11 @@
--- Laws of the definitions, for the proofs here and in the crates above.
-pub mod From
-pub mod Summing
-pub mod Lists
+-- Laws of what holds at a floor.
+pub mod Carried
+pub mod Order
+pub mod Places
+pub mod ByRate
 pub mod Shares
 pub mod Most
+pub mod Lowest
+pub mod Permuted
 pub mod Workings
-pub mod Before
-pub mod Order
-pub mod Carried
 pub mod Walk

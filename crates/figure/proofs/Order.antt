@@ -1,40 +1,21 @@
 -- The lines of a reached column are in floor order: entering refuses a line above the last one.
 -- Assumes nothing.
-use mathlib.Core.Path.{_≡_, refl, subst, subst⁻¹}
-use mathlib.Core.Bool.{Bool, true, false}
+use mathlib.Core.Path.{_≡_, subst⁻¹}
 use mathlib.Core.List.{List, [], _∷_, _++_}
-use Prim.Native.Nat.{ℕ, zero, suc, _≤_, _<_}
+use Prim.Native.Nat.{_≤_}
 use native.Mathlib.Nat.{le-trans}
 use native.Mathlib.Omega.{arith}
-use lib.Dec.{ltb}
 use lib.ListN.{length}
-use borrow.Author.Tests.{ltb-true, ltb-false}
-use Rattle.refusal.specs.Lists.{All, none}
+use Rattle.lists.specs.Lists.{All, none, more}
+use Rattle.lists.proofs.Lists.{all-first, all-rest, all-back, all-front, all-more, all-so}
 use Rattle.column.specs.declared.Line.{Line}
 use Rattle.column.specs.declared.Member.{Member}
 use Rattle.column.specs.declared.Column.{Column}
 use Rattle.column.specs.Accepted.{lastFloor, entryNumber, accepted}
 use Rattle.column.specs.Column.{linesOf, Reached}
-use Rattle.column.specs.Sound.{Sound}
-use Rattle.figure.specs.Descent.{floorAt, linesBetween}
-use Rattle.column.proofs.Lists.{all-more}
-use Rattle.figure.proofs.Lists.{all-first, all-rest, all-so}
-use Rattle.figure.proofs.From.{from-first, from-next}
 use Rattle.column.proofs.Columns.{column-lines}
-use Rattle.column.proofs.Reach.{not-above, accepted-all, reached-column, sound}
-use Rattle.figure.proofs.Before.{each-from}
-
--- a line that is at a floor or below it, and one that is at it or above
-abbrev NotAbove : ℕ → Line → Type 0
-NotAbove f l = f ≤ l .floor
-
-abbrev NotBelow : ℕ → Line → Type 0
-NotBelow f l = l .floor ≤ f
-
--- lines of which none is above an earlier one
-pub data Ordered : List Line → Type 0 where
-  empty : Ordered []
-  first : {l : Line} {ls : List Line} → All (NotAbove (l .floor)) ls → Ordered ls → Ordered (l ∷ ls)
+use Rattle.column.proofs.Reach.{not-above, accepted-all, accepted-holdable, reached-column}
+use Rattle.figure.specs.Totals.{DownTo, NotAbove, Ordered, empty, first}
 
 ordered-rest : {l : Line} {ls : List Line} → Ordered (l ∷ ls) → Ordered ls
 ordered-rest (first a o) = o
@@ -42,59 +23,45 @@ ordered-rest (first a o) = o
 ordered-first : {l : Line} {ls : List Line} → Ordered (l ∷ ls) → All (NotAbove (l .floor)) ls
 ordered-first (first a o) = a
 
-ordered-more : (ls : List Line) (l : Line) → Ordered ls → All (NotBelow (l .floor)) ls → Ordered (ls ++ (l ∷ []))
+-- the first lines are in order
+pub ordered-front : (ls ks : List Line) → Ordered (ls ++ ks) → Ordered ls
+ordered-front [] ks o = empty
+ordered-front (l ∷ ls) ks o = first (all-front ls ks (ordered-first o)) (ordered-front ls ks (ordered-rest o))
+
+-- of lines in order those before a line are not below it, and those after it not above
+module _ (l : Line) (ks : List Line) where
+  pub ordered-before : (ls : List Line) → Ordered (ls ++ (l ∷ ks)) → All (DownTo (l .floor)) ls
+  ordered-before [] o = none
+  ordered-before (k ∷ ls) o = more (all-first {P = NotAbove (k .floor)} (all-back ls (ordered-first o))) (ordered-before ls (ordered-rest o))
+
+  pub ordered-after : (ls : List Line) → Ordered (ls ++ (l ∷ ks)) → All (NotAbove (l .floor)) ks
+  ordered-after [] o = ordered-first o
+  ordered-after (k ∷ ls) o = ordered-after ls (ordered-rest o)
+
+ordered-more : (ls : List Line) (l : Line) → Ordered ls → All (DownTo (l .floor)) ls → Ordered (ls ++ (l ∷ []))
 ordered-more [] l o b = first none empty
 ordered-more (k ∷ ls) l o b =
-    first (all-more (ordered-first o) (all-first {P = NotBelow (l .floor)} b)) (ordered-more ls l (ordered-rest o) (all-rest b))
+    first (all-more (ordered-first o) (all-first {P = DownTo (l .floor)} b)) (ordered-more ls l (ordered-rest o) (all-rest b))
 
--- the last line is the last
-pub last-more : (ls : List Line) (l : Line) → lastFloor (ls ++ (l ∷ [])) ≡ l .floor
+-- no line of lines in order is below the last
+pub last-lowest : {ls : List Line} → Ordered ls → All (DownTo (lastFloor ls)) ls
 unfolding lastFloor
-last-more [] l = refl
-last-more (k ∷ []) l = refl
-last-more (k ∷ (j ∷ ls)) l = last-more (j ∷ ls) l
+last-lowest empty = none
+last-lowest (first {l} none o) = more {x = l} (omega arith) none
+last-lowest (first {l} (more {x} {xs} q a) o) = more {x = l} (le-trans q (all-first {P = DownTo (lastFloor (x ∷ xs))} (last-lowest o))) (last-lowest o)
 
--- lines in order, and none of them below the last
-record DownToLast (ls : List Line) : Type 0 where
-  ordered : Ordered ls
-  last : All (NotBelow (lastFloor ls)) ls
-
-accepted-ordered : (m : Member) (es : List Line) → DownToLast (accepted m es)
+accepted-ordered : (m : Member) (es : List Line) → Ordered (accepted m es)
 unfolding entryNumber
-accepted-ordered m es = accepted-all m DownToLast more-of [] es (record { ordered = empty; last = none })
+accepted-ordered m es = accepted-all m Ordered more-of [] es empty
   where
-    more-of : (ls : List Line) (l : Line) → DownToLast ls → entryNumber m ls l ≡ 0 → DownToLast (ls ++ (l ∷ []))
-    more-of ls l h e =
+    more-of : (ls : List Line) (l : Line) → Ordered ls → entryNumber m ls l ≡ 0 → Ordered (ls ++ (l ∷ []))
+    more-of ls l o e =
         let low : lastFloor ls ≤ l .floor = not-above m (length ls) (lastFloor ls) l e in
-        let all : All (NotBelow (l .floor)) ls = all-so {P = NotBelow (lastFloor ls)} (λ k q. le-trans q low) (h .last) in
-        record {
-          ordered = ordered-more ls l (h .ordered) all;
-          last = subst⁻¹ (λ (f : ℕ). All (NotBelow f) (ls ++ (l ∷ []))) (last-more ls l) (all-more {P = NotBelow (l .floor)} all (omega arith));
-        }
+        ordered-more ls l o (all-so {P = DownTo (lastFloor ls)} (λ k q. le-trans q low) (last-lowest o))
 
 -- the lines of a reached column are in order
 pub reached-ordered : {c : Column} → Reached c → Ordered (linesOf c)
 reached-ordered r =
     let m = r .member in
     subst⁻¹ (λ (d : Column). Ordered (linesOf d)) (reached-column r)
-    (subst⁻¹ Ordered (column-lines m (accepted m (r .entries))) (accepted-ordered m (r .entries) .ordered))
-
-module _ (c : Column) (ok : Sound c) where
-  ordered-from : (i : ℕ) → i ≤ c .count → Ordered (linesOf c) → Ordered (linesBetween (c .held) i (c .count))
-  ordered-from zero h o = subst⁻¹ Ordered (from-first c) o
-  ordered-from (suc i) h o = ordered-rest (subst Ordered (from-next c ok i h) (ordered-from i (omega arith) o))
-
--- so the floor of a line is not above that of a line at an earlier place
-pub in-order : {c : Column} → Reached c → (i j : ℕ) → i ≤ j → j < c .count → floorAt (c .held) i ≤ floorAt (c .held) j
-in-order {c} r i j h k = go (ltb i j) refl
-  where
-    ok : Sound c
-    ok = sound r
-
-    go : (b : Bool) → ltb i j ≡ b → floorAt (c .held) i ≤ floorAt (c .held) j
-    go true e =
-        let o = ordered-from c ok i (omega arith) (reached-ordered r) in
-        each-from c ok (NotAbove (floorAt (c .held) i)) (suc i) j (ltb-true i j e) k (ordered-first (subst Ordered (from-next c ok i (omega arith)) o))
-    go false e =
-        let same : i ≡ j = omega (arith, ltb-false i j e) in
-        rw same (omega arith)
+    (subst⁻¹ Ordered (column-lines m (accepted m (r .entries)) (accepted-holdable m (r .entries) .lines)) (accepted-ordered m (r .entries)))

@@ -5,7 +5,7 @@ use mathlib.Core.Bool.{false}
 use mathlib.Core.List.{List, [], _∷_, _++_, append-nil, append-assoc}
 use Prim.Native.Nat.{ℕ, zero, suc, _+_, _*_, _-_, _≤_, _<_}
 use native.Mathlib.Omega.{arith}
-use lib.ListN.{length, take, drop, set, replicate, length-append, length-replicate}
+use lib.ListN.{length, drop, set, replicate, length-append, length-replicate}
 use lib.Seq.{sets-eq, take-at, drop-append-add}
 use Rattle.refusal.specs.Said.{Said, gives, refused}
 use Rattle.column.specs.declared.Column.{Column}
@@ -19,14 +19,6 @@ pub numbers-three : (s : Said Working) → length (workingNumbers s) ≡ 3
 unfolding workingNumbers
 numbers-three (gives w) = refl
 numbers-three (refused n) = refl
-
--- three numbers stored one after another
-pub three-stored : (l : List ℕ) (at a b c : ℕ) → at + 3 ≤ length l
-    → set (set (set l at a) (at + 1) b) (at + 2) c ≡ take at l ++ (a ∷ (b ∷ (c ∷ []))) ++ drop (at + 3) l
-three-stored l at a b c h =
-    let second : at + 1 ≡ suc at = omega arith in
-    let third : at + 2 ≡ suc (suc at) = omega arith in
-    rw (second, third) (sets-eq (a ∷ (b ∷ (c ∷ []))) l at h)
 
 pub workings-length : (c : Column) (f : ℕ) → length (workingsOf c f) ≡ 3 * f
 unfolding workingsOf
@@ -61,23 +53,27 @@ module _ (c : Column) where
       passed-one f (omega arith) (p (suc f) (omega arith) (omega arith))
       ∙ passed-over d (suc f) g (omega arith) h (λ k q. p k (omega arith))
 
-  -- the numbers of the next floor are put after those of the floors passed
-  pub passed-put : (f : ℕ) → f < 64
-      → take (3 * f) (passedTo c f) ++ workingNumbers (asked c (suc f)) ++ drop (3 * f + 3) (passedTo c f) ≡ passedTo c (suc f)
-  unfolding passedTo workingsOf
-  passed-put f h =
-      let left = zeros (192 - 3 * f) in
-      let size = workings-length c f in
-      let rest : drop (3 * f + 3) (workingsOf c f ++ left) ≡ zeros (192 - 3 * suc f) =
-      ap (λ (n : ℕ). drop (n + 3) (workingsOf c f ++ left)) (sym size)
-      ∙ (drop-append-add (workingsOf c f) left 3 ∙ ap (drop 3) (next-zeros f h)) in
-      rw (take-at (workingsOf c f) left (3 * f) size, rest)
-
   pub passed-length : (f : ℕ) → f ≤ 64 → length (passedTo c f) ≡ 192
   unfolding passedTo
   passed-length f h =
       length-append (workingsOf c f) (zeros (192 - 3 * f))
       ∙ rw (workings-length c f, length-replicate {A = ℕ} (192 - 3 * f) 0) (omega arith)
+
+  -- the numbers of the next floor are put after those of the floors passed
+  pub passed-put : {n x r : ℕ} (f : ℕ) → f < 64 → workingNumbers (asked c (suc f)) ≡ n ∷ (x ∷ (r ∷ []))
+      → set (set (set (passedTo c f) (3 * f) n) (3 * f + 1) x) (3 * f + 2) r ≡ passedTo c (suc f)
+  unfolding passedTo workingsOf
+  passed-put {n} {x} {r} f h e =
+      let done = workingsOf c f in
+      let left = zeros (192 - 3 * f) in
+      let size = workings-length c f in
+      let second : 3 * f + 1 ≡ suc (3 * f) = omega arith in
+      let third : 3 * f + 2 ≡ suc (suc (3 * f)) = omega arith in
+      let rest : drop (3 * f + 3) (done ++ left) ≡ zeros (192 - 3 * suc f) =
+      ap (λ (n : ℕ). drop (n + 3) (done ++ left)) (sym size) ∙ (drop-append-add done left 3 ∙ ap (drop 3) (next-zeros f h)) in
+      rw (second, third)
+      (sets-eq (n ∷ (x ∷ (r ∷ []))) (done ++ left) (3 * f) (omega (arith, passed-length f (omega arith)))
+      ∙ rw (take-at done left (3 * f) size, rest, e))
 
   -- before any, and after all
   pub passed-none : passedTo c 0 ≡ zeros 192

@@ -10,7 +10,7 @@ use Rattle.member.specs.Member.{tableFactor}
 use Rattle.member.specs.Line.{isFormula}
 use Rattle.column.specs.declared.Line.{Line}
 use Rattle.column.specs.declared.Member.{Member}
-use Rattle.figure.specs.Lists.{keep, some, total}
+use Rattle.lists.specs.Lists.{keep, some, total}
 
 -- 01, Member, line, floor: a formula line
 unfoldable pub isFormulaLine : Line → Bool
@@ -40,6 +40,10 @@ floorsOf (l ∷ ls) = cond (hasFloor (l .floor) ls) 0 1 + floorsOf ls
 unfoldable pub areaOf : List Line → ℕ
 areaOf ls = total (λ l. l .area .0) ls
 
+-- 01, Member, line, floor: X of a member, K times an area
+unfoldable pub influenceFrom : Member → ℕ → InfluenceArea
+influenceFrom m area = record { 0 = tableFactor (m .code) * area }
+
 -- 01, Member, line, floor: X, K times the summed area of the formula lines carried
 unfoldable pub influenceOf : Member → List Line → InfluenceArea
-influenceOf m ls = record { 0 = tableFactor (m .code) * areaOf (formulaLines ls) }
+influenceOf m ls = influenceFrom m (areaOf (formulaLines ls))

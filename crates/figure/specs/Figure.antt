@@ -8,7 +8,7 @@ use Rattle.reduction.specs.Share.{shareOf}
 use Rattle.reduction.specs.Reduced.{reduced}
 use Rattle.column.specs.declared.Line.{Line}
 use Rattle.column.specs.declared.Member.{Member}
-use Rattle.figure.specs.Lists.{total}
+use Rattle.lists.specs.Lists.{total}
 use Rattle.figure.specs.Carried.{floorsOf, influenceOf}
 
 -- 01, Reduced load and figure: the share of a line, at n floors and the influence area x

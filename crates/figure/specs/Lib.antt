@@ -1,8 +1,9 @@
 -- The definitions of what holds at a floor; paper 01 in its order, then what private functions count.
-pub mod Lists
 pub mod Carried
 pub mod Figure
 pub mod Asked
+pub mod Lowest
 pub mod Workings
 pub mod Totals
+pub mod Rates
 pub mod Descent

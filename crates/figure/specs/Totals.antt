@@ -1,34 +1,44 @@
--- What the private functions count. No promise cites it.
+-- What the private functions count and sum over the lines at a column's places. No promise cites it.
 -- Assumes nothing.
 use mathlib.Core.Path.{_≡_}
 use mathlib.Core.Bool.{cond}
-use mathlib.Core.List.{List}
-use Prim.Native.Nat.{ℕ, _*_, _-_, _≤_}
-use Rattle.reduction.specs.declared.InfluenceArea.{InfluenceArea}
-use Rattle.reduction.specs.Share.{otherTwentieths}
+use mathlib.Core.List.{List, [], _∷_}
+use Prim.Native.Nat.{ℕ, _*_, _-_, _≤_, _<_}
+use lib.Dec.{ltb}
+use Rattle.lists.specs.Lists.{All, total}
 use Rattle.column.specs.declared.Line.{Line}
-use Rattle.figure.specs.declared.at_floor.Totals.{Totals}
-use Rattle.figure.specs.Lists.{total}
-use Rattle.figure.specs.Figure.{lineFigure}
-use Rattle.figure.specs.Descent.{linesBetween}
-use Rattle.figure.specs.Carried.{isFormulaLine, formulaLines, carried, hasFloor, floorsOf, areaOf}
+use Rattle.column.specs.Sound.{linesBefore, linesBetween}
+use Rattle.figure.specs.Carried.{isFormulaLine, carried, hasFloor}
 
 -- the area that a line adds to the formula lines' area
 unfoldable pub formulaArea : Line → ℕ
 formulaArea l = cond (isFormulaLine l) (l .area .0) 0
 
--- the twentieths of a line's share at n floors, where the formula lines have so many; 0 where it is the root
-unfoldable pub lineTwentieths : ℕ → ℕ → Line → ℕ
-lineTwentieths n clamped l = cond (isFormulaLine l) clamped (otherTwentieths (l .class) n)
+-- the sum of a number of each line from a place to before another, each at most so much
+pub record SumOf (number : Line → ℕ) (each : ℕ) (places : List ℕ) (first end sum : ℕ) : Type 0 where
+  pub is : sum ≡ total number (linesBetween places first end)
+  pub most : sum ≤ each * (end - first)
 
--- n, the formula lines' area and whether a line has floor f, of the lines carried there
-pub record TotalsOf (f : ℕ) (ls : List Line) (t : Totals) : Type 0 where
-  pub distinct : t .floors ≡ floorsOf (carried f ls)
-  pub sum : t .area .0 ≡ areaOf (formulaLines (carried f ls))
-  pub most : t .area .0 ≤ 51200000
-  pub has : t .present ≡ hasFloor f ls
+-- a line at a floor, one at it or above it, and one below it
+abbrev pub At : ℕ → Line → Type 0
+At f l = l .floor ≡ f
 
--- the sum of R × area over the lines carried at floor f, from a place to before another, at n floors and the influence area x
-pub record SumOf (f n : ℕ) (x : InfluenceArea) (places : List ℕ) (first end sum : ℕ) : Type 0 where
-  pub is : sum ≡ total (lineFigure n x) (carried f (linesBetween places first end))
-  pub most : sum ≤ 10000000000 * (end - first)
+abbrev pub DownTo : ℕ → Line → Type 0
+DownTo f l = l .floor ≤ f
+
+abbrev pub Below : ℕ → Line → Type 0
+Below f l = f < l .floor
+
+-- lines of which none is above an earlier one
+abbrev pub NotAbove : ℕ → Line → Type 0
+NotAbove f l = f ≤ l .floor
+
+pub data Ordered : List Line → Type 0 where
+  empty : Ordered []
+  first : {l : Line} {ls : List Line} → All (NotAbove (l .floor)) ls → Ordered ls → Ordered (l ∷ ls)
+
+-- how many lines are carried at a floor that a line has, and 0 at any other; they stand first
+pub record FrontOf (f : ℕ) (places : List ℕ) (count end : ℕ) : Type 0 where
+  pub few : end ≤ count
+  pub has : hasFloor f (linesBefore places count) ≡ ltb 0 end
+  pub carries : 0 < end → carried f (linesBefore places count) ≡ linesBefore places end

@@ -1,106 +1,86 @@
-// What holds at a floor, worked out from lines within their limits, in whatever order they stand.
+// What holds at a floor: a reached column has its lines in floor order, so those carried stand first.
 ghost use mathlib.Core.Path.{_≡_};
-ghost use mathlib.Core.Bool.{true, cond};
-ghost use Prim.Native.Nat.{_*_, _≤_};
-ghost use Rattle.member.specs.Numbers.{between};
-ghost use Rattle.member.specs.Member.{tableFactor};
-ghost use Rattle.column.specs.Column.{columnFrom, linesOf};
+ghost use mathlib.Core.Bool.{cond};
+ghost use Prim.Native.Nat.{_-_, _≤_, _<_};
+ghost use lib.Dec.{eqb};
+ghost use lib.ListN.{length};
+ghost use Rattle.column.specs.Line.{mostLines};
+ghost use Rattle.column.specs.Column.{columnFrom, Reached};
+ghost use Rattle.column.specs.Sound.{Held, lineAt, linesBefore};
+ghost use Rattle.figure.specs.Carried.{floorsOf};
 ghost use Rattle.figure.specs.Asked.{asked, saidWorking};
-ghost use Rattle.column.specs.Sound.{Sound};
-ghost use Rattle.figure.specs.Totals.{TotalsOf, formulaArea};
+ghost use Rattle.figure.specs.Totals.{Ordered, FrontOf};
 use crate::Asked;
 use crate::Working;
-use crate::places;
+use crate::lines;
+use crate::rates;
 use crate::sums;
-use column::Line;
 use column::Member;
+use column::Places;
 use member::TributaryArea;
-use reduction::InfluenceArea;
-use refusal::Answer;
 use refusal::Refusal;
 
-// Of the lines carried at a floor: how many distinct floors they have, the area of the formula
-// lines, and whether one has the floor itself.
-struct Totals {
-    floors: u64,
-    area: TributaryArea,
-    present: bool,
-}
-
-// 0 for a floor that was seen before, 1 for a new one.
-fn one_if_new(seen: bool) -> u64
-    ensures { λ r. ⌜ (r ≡ cond seen 0 1) × (r ≤ 1) ⌝ }
+// How many lines are carried at a floor; 0 where no line has that floor.
+fn lines_at(held: &Places, count: u16, floor: u64) -> usize
+    requires { ⌜ Held (now held) count × Ordered (linesBefore (now held) count) ⌝ }
+    ensures { λ r. ⌜ FrontOf floor (now (held .entry)) count r ⌝ }
 {
-    if seen { 0 } else { 1 }
-}
-
-// The area of a formula line, and 0 of any other.
-pub fn formula_area(line: Line) -> u64
-    ensures { λ r. ⌜ (r ≡ formulaArea line) × (r ≤ line .area .0) ⌝ }
-{
-    if member::is_formula(line.load, line.class) {
-        return line.area.0;
+    let mut end = count as usize;
+    while 0 < end {
+        let last = end - 1;
+        let here = lines::line_at(held, last).floor;
+        if here == floor {
+            return end;
+        }
+        if here < floor {
+            return 0;
+        }
+        end = last;
     }
     0
 }
 
-// Goes over the lines from the last to the first, and marks each floor that it meets.
-fn totals_at(held: &[u32; 1024], member: Member, count: u16, floor: u64) -> Totals
-    requires { ⌜ Sound (columnFrom member count (now held)) × (floor ≤ 64) ⌝ }
-    ensures { λ r. ⌜ TotalsOf floor (linesOf (columnFrom member count (now (held .entry)))) r ⌝ }
+// 1 where the line at a place has another floor than the one before it, else 0.
+fn one_if_new(held: &Places, at: usize) -> u64
+    requires { ⌜ (length (now held) ≡ mostLines) × (0 < at) × (at < mostLines) ⌝ }
+    ensures { λ r. ⌜ (r ≡ cond (eqb (lineAt (now (held .entry)) at .floor) (lineAt (now (held .entry)) (at - 1) .floor)) 0 1) × (r ≤ 1) ⌝ }
 {
-    let mut seen = [false; 65];
-    let mut floors: u64 = 0;
-    let mut area: u64 = 0;
-    let mut i = count as usize;
-    while 0 < i {
-        i -= 1;
-        let line = places::line_at(held, i);
-        if line.floor <= floor {
-            let at = line.floor as usize;
-            let old = seen[at];
-            seen[at] = true;
-            floors += one_if_new(old);
-            area += formula_area(line);
-        }
+    if lines::line_at(held, at).floor == lines::line_at(held, at - 1).floor {
+        return 0;
     }
-    let at = floor as usize;
-    Totals {
-        floors: floors,
-        area: TributaryArea(area),
-        present: seen[at],
-    }
+    1
 }
 
-// X, K times the summed area of the formula lines. A column's member has a code, so its factor is
-// never refused.
-pub fn influence_of(member: Member, area: TributaryArea) -> InfluenceArea
-    requires { ⌜ (between 1 12 (member .code) ≡ true) × (area .0 ≤ 51200000) ⌝ }
-    ensures { λ r. ⌜ r .0 ≡ tableFactor (member .code) * area .0 ⌝ }
+// How many floors the first lines have: a floor is new where it is not that of the line before.
+fn floors_before(held: &Places, end: usize) -> u64
+    requires { ⌜ Held (now held) end × Ordered (linesBefore (now held) end) × (0 < end) ⌝ }
+    ensures { λ r. ⌜ r ≡ floorsOf (linesBefore (now (held .entry)) end) ⌝ }
 {
-    let answer = member::factor(member.code as u64);
-    match answer {
-        Answer::Gives(factor) => InfluenceArea(factor * area.0),
-        Answer::Refused(_) => InfluenceArea(0),
+    let mut floors: u64 = 1;
+    let mut i: usize = 1;
+    while i < end {
+        floors += one_if_new(held, i);
+        i += 1;
     }
+    floors
 }
 
 // n, X and the figure at a floor; refused where no line has that floor.
-pub fn asked_at(held: &[u32; 1024], member: Member, count: u16, floor: u64) -> Asked
-    requires { ⌜ Sound (columnFrom member count (now held)) ⌝ }
+pub fn asked_at(held: &Places, member: Member, count: u16, floor: u64) -> Asked
+    requires { ⌜ Reached (columnFrom member count (now held)) ⌝ }
     ensures { λ r. ⌜ saidWorking r ≡ asked (columnFrom member count (now (held .entry))) floor ⌝ }
 {
-    if 64 < floor {
+    let end = lines_at(held, count, floor);
+    if end == 0 {
         return Asked::Refused(Refusal::NoLineAtFloor);
     }
-    let t = totals_at(held, member, count, floor);
-    if !t.present {
-        return Asked::Refused(Refusal::NoLineAtFloor);
-    }
-    let x = influence_of(member, t.area);
+    let floors = floors_before(held, end);
+    let area = TributaryArea(sums::area_between(held, 0, end));
+    let shares = rates::shares_at(member, floors, area);
+    let x = shares.influence;
     Asked::Gives(Working {
-        floors: t.floors,
+        floors: floors,
         influence: x,
-        figure: sums::sum_carried(held, member, 0, count as usize, floor, t.floors, x),
+        figure: sums::figure_between(held, 0, end, shares),
     })
 }

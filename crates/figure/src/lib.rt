@@ -1,17 +1,27 @@
 // Asking a column at a floor, or working out all floors: how many are carried, the influence area and the figure.
 ghost use mathlib.Core.Path.{_≡_};
+ghost use Rattle.column.specs.Line.{lowestFloor};
 ghost use Rattle.column.specs.Column.{columnFrom, Reached};
 ghost use Rattle.figure.specs.Asked.{asked, saidWorking};
 ghost use Rattle.figure.specs.Workings.{workingsOf};
 use column::Column;
 use column::Member;
+use column::Places;
 use reduction::InfluenceArea;
 use refusal::Refusal;
 
+mod any_order;
 mod at_floor;
 mod descent;
-mod places;
+mod lines;
+mod rates;
 mod sums;
+
+// Three numbers for every floor that a line can have.
+pub const NUMBERS: usize = 3 * column::LOWEST_FLOOR as usize;
+
+// What holds at every floor, as numbers.
+pub type Table = [u64; NUMBERS];
 
 // What holds at a floor: the number n of distinct floors carried, the influence area X, and the
 // figure in hundredths of a newton.
@@ -29,7 +39,7 @@ pub enum Asked {
 
 // n, X and the figure at a floor, asked in place: of the column that a member, a count and its places
 // make; refused where no accepted line has that floor.
-pub fn ask_in(held: &[u32; 1024], member: Member, count: u16, floor: u64) -> Asked
+pub fn ask_in(held: &Places, member: Member, count: u16, floor: u64) -> Asked
     requires { ⌜ Reached (columnFrom member count (now held)) ⌝ }
     ensures { λ r. ⌜ saidWorking r ≡ asked (columnFrom member count (now (held .entry))) floor ⌝ }
 {
@@ -47,9 +57,9 @@ pub fn ask(column: Column, floor: u64) -> Asked
 
 // n, X and the figure at every floor from 1 to 64, three numbers a floor, of the column that a member, a
 // count and its places make; zeros at a floor that no accepted line has.
-pub fn work_out(held: &[u32; 1024], member: Member, count: u16, table: &mut [u64; 192])
+pub fn work_out(held: &Places, member: Member, count: u16, table: &mut Table)
     requires { ⌜ Reached (columnFrom member count (now held)) ⌝ }
-    ensures { λ _. ⌜ now (table .exit) ≡ workingsOf (columnFrom member count (now (held .entry))) 64 ⌝ }
+    ensures { λ _. ⌜ now (table .exit) ≡ workingsOf (columnFrom member count (now (held .entry))) lowestFloor ⌝ }
 {
     descent::work_out_all(held, member, count, table);
 }

@@ -1,137 +1,49 @@
-// The sum of R × area over the lines carried at a floor. Where the formula lines' share is clamped a line
-// is only rounded up, and where it is the root there is a search; each has a loop of its own, for speed.
+// Sums over lines that stand together, in whatever order: the formula lines' area, and R × area.
 ghost use mathlib.Core.Path.{_≡_};
-ghost use Prim.Native.Nat.{_≤_, _<_};
-ghost use Rattle.reduction.specs.Share.{clampedOf};
-ghost use Rattle.figure.specs.Figure.{lineFigure};
-ghost use Rattle.column.specs.Column.{columnFrom};
-ghost use Rattle.column.specs.Sound.{InLimits, Sound};
-ghost use Rattle.figure.specs.Totals.{lineTwentieths, SumOf};
-use crate::places;
-use column::Line;
-use column::Member;
-use reduction::InfluenceArea;
-use reduction::RootEstimate;
-use refusal::Answer;
+ghost use Prim.Native.Nat.{_≤_};
+ghost use Rattle.column.specs.Line.{unpacked};
+ghost use Rattle.column.specs.Sound.{InLimits, Held};
+ghost use Rattle.figure.specs.Totals.{formulaArea, SumOf};
+ghost use Rattle.figure.specs.Rates.{Shared, figureBy};
+use crate::rates;
+use crate::rates::Shares;
+use column::Places;
 
-// The share of a line in twentieths, where the formula lines have so many; 0 where it is the root.
-fn line_twentieths(line: Line, floors: u64, clamped: u64) -> u64
-    ensures { λ r. ⌜ r ≡ lineTwentieths floors clamped line ⌝ }
+// The area of a formula line, and 0 of any other.
+fn formula_area(number: u64) -> u64
+    requires { ⌜ InLimits (unpacked number) ⌝ }
+    ensures { λ r. ⌜ (r ≡ formulaArea (unpacked number)) × (r ≤ 200000) ⌝ }
 {
-    if !member::is_formula(line.load, line.class) {
-        return reduction::other_twentieths(line.class, floors);
+    if rates::is_formula(number) {
+        return column::line_of(number).area.0;
     }
-    clamped
+    0
 }
 
-// R × area of a line that has so many twentieths.
-fn rounded_figure(line: Line, floors: u64, x: InfluenceArea, twentieths: u64) -> u64
-    requires { ⌜ InLimits line × (twentieths ≡ lineTwentieths floors (clampedOf floors x) line) × (0 < twentieths) ⌝ }
-    ensures { λ r. ⌜ (r ≡ lineFigure floors x line) × (r ≤ 10000000000) ⌝ }
+// The formula lines' area, from a place to before another.
+pub fn area_between(held: &Places, first: usize, end: usize) -> u64
+    requires { ⌜ Held (now held) end × (first ≤ end) ⌝ }
+    ensures { λ r. ⌜ SumOf formulaArea 200000 (now (held .entry)) first end r ⌝ }
 {
-    reduction::rounded_up(twentieths, line.load) * line.area.0
-}
-
-// R × area of a line where the formula lines' share is clamped.
-fn clamped_figure(line: Line, floors: u64, x: InfluenceArea, clamped: u64) -> u64
-    requires { ⌜ InLimits line × (clamped ≡ clampedOf floors x) × (0 < clamped) ⌝ }
-    ensures { λ r. ⌜ (r ≡ lineFigure floors x line) × (r ≤ 10000000000) ⌝ }
-{
-    rounded_figure(line, floors, x, line_twentieths(line, floors, clamped))
-}
-
-// R × area of a line, by an estimate of the root. A line within its limits is never refused.
-fn searched_figure(line: Line, floors: u64, x: InfluenceArea, estimate: RootEstimate) -> u64
-    requires { ⌜ InLimits line ⌝ }
-    ensures { λ r. ⌜ (r ≡ lineFigure floors x line) × (r ≤ 10000000000) ⌝ }
-{
-    let answer = reduction::reduced_load_from(estimate, line.load, line.class, floors, x);
-    match answer {
-        Answer::Gives(reduced) => reduced * line.area.0,
-        Answer::Refused(_) => 0,
+    let mut area: u64 = 0;
+    let mut i = first;
+    while i < end {
+        area += formula_area(held[i]);
+        i += 1;
     }
+    area
 }
 
-// R × area of a line where the formula lines' share is the root. Only they need the search.
-fn root_figure(line: Line, floors: u64, x: InfluenceArea, estimate: RootEstimate) -> u64
-    requires { ⌜ InLimits line ⌝ }
-    ensures { λ r. ⌜ (r ≡ lineFigure floors x line) × (r ≤ 10000000000) ⌝ }
+// The sum of R × area, from a place to before another.
+pub fn figure_between(held: &Places, first: usize, end: usize, shares: Shares) -> u64
+    requires { ⌜ Held (now held) end × (first ≤ end) × Shared shares ⌝ }
+    ensures { λ r. ⌜ SumOf (figureBy shares) 10000000000 (now (held .entry)) first end r ⌝ }
 {
-    if !member::is_formula(line.load, line.class) {
-        let twentieths = reduction::other_twentieths(line.class, floors);
-        return rounded_figure(line, floors, x, twentieths);
+    let mut figure: u64 = 0;
+    let mut i = first;
+    while i < end {
+        figure += rates::line_figure(held[i], shares);
+        i += 1;
     }
-    searched_figure(line, floors, x, estimate)
-}
-
-// The sum where the formula lines' share is clamped.
-fn sum_clamped(
-    held: &[u32; 1024],
-    member: Member,
-    first: usize,
-    end: usize,
-    floor: u64,
-    floors: u64,
-    x: InfluenceArea,
-    clamped: u64,
-) -> u64
-    requires { ⌜ Sound (columnFrom member end (now held)) × (first ≤ end) × (clamped ≡ clampedOf floors x) × (0 < clamped) ⌝ }
-    ensures { λ r. ⌜ SumOf floor floors x (now (held .entry)) first end r ⌝ }
-{
-    let mut sum: u64 = 0;
-    let mut i = end;
-    while first < i {
-        i -= 1;
-        let line = places::line_at(held, i);
-        if line.floor <= floor {
-            sum += clamped_figure(line, floors, x, clamped);
-        }
-    }
-    sum
-}
-
-// The sum where the formula lines' share is the root, whose estimate serves all of them.
-fn sum_by_root(
-    held: &[u32; 1024],
-    member: Member,
-    first: usize,
-    end: usize,
-    floor: u64,
-    floors: u64,
-    x: InfluenceArea,
-) -> u64
-    requires { ⌜ Sound (columnFrom member end (now held)) × (first ≤ end) ⌝ }
-    ensures { λ r. ⌜ SumOf floor floors x (now (held .entry)) first end r ⌝ }
-{
-    let estimate = reduction::root_estimate(floors, x);
-    let mut sum: u64 = 0;
-    let mut i = end;
-    while first < i {
-        i -= 1;
-        let line = places::line_at(held, i);
-        if line.floor <= floor {
-            sum += root_figure(line, floors, x, estimate);
-        }
-    }
-    sum
-}
-
-// The sum of R × area over the lines carried at a floor, from a place to before another.
-pub fn sum_carried(
-    held: &[u32; 1024],
-    member: Member,
-    first: usize,
-    end: usize,
-    floor: u64,
-    floors: u64,
-    x: InfluenceArea,
-) -> u64
-    requires { ⌜ Sound (columnFrom member end (now held)) × (first ≤ end) ⌝ }
-    ensures { λ r. ⌜ SumOf floor floors x (now (held .entry)) first end r ⌝ }
-{
-    let clamped = reduction::clamped_twentieths(floors, x);
-    if clamped == 0 {
-        return sum_by_root(held, member, first, end, floor, floors, x);
-    }
-    sum_clamped(held, member, first, end, floor, floors, x, clamped)
+    figure
 }

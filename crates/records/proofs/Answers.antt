@@ -1,41 +1,33 @@
 -- The list call gives what opening the member, entering the lines and asking give, and its figure is within the bounds.
 -- Assumes nothing.
 use mathlib.Core.Path.{_≡_, refl, sym, _∙_, ap, subst⁻¹}
-use mathlib.Core.Bool.{Bool, true, false, cond}
+use mathlib.Core.Bool.{Bool, true, cond}
 use mathlib.Core.List.{List, [], _∷_, _++_, append-nil}
 use mathlib.Core.Logic.{_⊎_, inl, inr}
-use Prim.Native.Nat.{ℕ, zero, suc, _+_, _≤_}
+use Prim.Native.Nat.{ℕ, _+_, _≤_}
 use native.Mathlib.Omega.{arith}
-use lib.Dec.{eqb}
 use lib.ListN.{length}
 use lib.Seq.{append-snoc}
-use borrow.Author.Tests.{ne-eqb}
+use Rattle.lists.proofs.Tests.{cases}
 use Rattle.refusal.specs.Said as said
 use Rattle.refusal.specs.Told.{Told, gives, refused}
+use Rattle.refusal.proofs.Said.{by-number, not-zero}
 use Rattle.column.specs.declared.Line.{Line}
 use Rattle.column.specs.declared.Member.{Member}
 use Rattle.column.specs.declared.Column.{Column}
 use Rattle.figure.specs.declared.Working.{Working}
 use Rattle.figure.specs.Carried.{hasFloor}
 use Rattle.column.specs.Accepted.{entryNumber, accepted}
-use Rattle.column.specs.Column.{linesOf, columnOf, openedOf, enteredOf, after}
+use Rattle.column.specs.Column.{columnOf, openedOf, enteredOf, after}
 use Rattle.figure.specs.Asked.{workingOf, askedOf}
 use Rattle.demand3.specs.Demand3.{Claim}
+use Rattle.column.specs.Entering.{NoneRefused, none, more, Stops}
 use Rattle.column.proofs.Columns.{column-lines}
-use Rattle.column.proofs.Reach.{entered-accepted, opened-column, after-opened}
-use Rattle.demand3.proofs.Demand3.{demand3}
+use Rattle.column.proofs.Reach.{Holdable, holdable-none, holdable-more, entered-accepted, opened-column}
+use Rattle.column.proofs.Entering.{every-list}
+use Rattle.demand3.proofs.Demand3.{claimed}
 use Rattle.records.specs.Listed.{atPlace, listedFrom, listedOf, Bounds}
-use Rattle.records.specs.AsEntered.{NoneRefused, none, more, Stops, EveryList, AtOpening, AtFirst, AsEntered, FigureOfAll}
-
--- ---- a number tells whether something is refused
-
-pub by-number : {P : Type 0} (n : ℕ) → (n ≡ 0 → P) → (1 ≤ n → P) → P
-by-number zero is-zero is-more = is-zero refl
-by-number (suc n) is-zero is-more = is-more (omega arith)
-
--- a number of a refusal is not 0
-pub not-zero : {n : ℕ} → 1 ≤ n → eqb n 0 ≡ false
-not-zero {n} h = ne-eqb n 0 (λ q. omega arith)
+use Rattle.records.specs.AsEntered.{AtOpening, AtFirst, AsEntered, FigureOfAll}
 
 -- an answer that refuses gives no figure
 no-figure : {P : Type 0} {t : Told ℕ Working} {n place : ℕ} {w : Working} → t ≡ refused n place → t ≡ gives w → P
@@ -57,15 +49,15 @@ module _ (m : Member) where
 
 module _ (m : Member) (ls : List Line) (l : Line) where
   -- entering a line on the column of some lines checks it after these lines
-  column-number : enteredOf (columnOf m ls) l .number ≡ entryNumber m ls l
+  column-number : Holdable ls → enteredOf (columnOf m ls) l .number ≡ entryNumber m ls l
   unfolding enteredOf columnOf
-  column-number = rw (column-lines m ls)
+  column-number k = rw (column-lines m ls (k .lines))
 
   -- where no condition holds it is the last line of the column then
-  column-entered : entryNumber m ls l ≡ 0
+  pub column-entered : Holdable ls → entryNumber m ls l ≡ 0
       → enteredOf (columnOf m ls) l ≡ record { number = 0; column = columnOf m (ls ++ (l ∷ [])) }
   unfolding columnOf
-  column-entered e = entered-accepted (columnOf m ls) l (rw (column-lines m ls) e) ∙ rw (column-lines m ls)
+  column-entered k e = let back = column-lines m ls (k .lines) in entered-accepted (columnOf m ls) l (rw back e) ∙ rw back
 
   module _ (lines : List Line) (f : ℕ) where
     pub listed-on : entryNumber m ls l ≡ 0 → listedFrom m ls (l ∷ lines) f ≡ listedFrom m (ls ++ (l ∷ [])) lines f
@@ -80,33 +72,30 @@ module _ (m : Member) (ls : List Line) (l : Line) where
 
 -- they join the lines before them, and the others follow
 record Joined (m : Member) (ls lines : List Line) : Type 0 where
+  holdable : Holdable (ls ++ lines)
   column : after (columnOf m ls) lines ≡ columnOf m (ls ++ lines)
   listed : (rest : List Line) (f : ℕ) → listedFrom m ls (lines ++ rest) f ≡ listedFrom m (ls ++ lines) rest f
 
-none-refused : (m : Member) (ls lines : List Line) → NoneRefused (columnOf m ls) lines → Joined m ls lines
+none-refused : (m : Member) (ls lines : List Line) → Holdable ls → NoneRefused (columnOf m ls) lines → Joined m ls lines
 unfolding after
-none-refused m ls [] none = record { column = rw (append-nil ls); listed = λ rest f. rw (append-nil ls) }
-none-refused m ls (l ∷ lines) (more e h) =
-    let a : entryNumber m ls l ≡ 0 = sym (column-number m ls l) ∙ e in
-    let c : enteredOf (columnOf m ls) l .column ≡ columnOf m (ls ++ (l ∷ [])) = rw (column-entered m ls l a) in
-    let j = none-refused m (ls ++ (l ∷ [])) lines (rw c at h) in
+none-refused m ls [] k none = record { holdable = rw (append-nil ls) k; column = rw (append-nil ls); listed = λ rest f. rw (append-nil ls) }
+none-refused m ls (l ∷ lines) k (more e h) =
+    let a : entryNumber m ls l ≡ 0 = sym (column-number m ls l k) ∙ e in
+    let c : enteredOf (columnOf m ls) l .column ≡ columnOf m (ls ++ (l ∷ [])) = rw (column-entered m ls l k a) in
+    let j = none-refused m (ls ++ (l ∷ [])) lines (holdable-more m ls l k a) (rw c at h) in
     record {
+      holdable = rw (append-snoc ls l lines) at (j .holdable);
       column = rw c (rw (append-snoc ls l lines) at (j .column));
       listed = λ rest f. listed-on m ls l (lines ++ rest) f a ∙ (rw (append-snoc ls l lines) at (j .listed rest f));
     }
 
--- from the first line on: they are the lines of the column, and the accepted ones, and the answer is as after them
+-- from the first line on: they are the lines of the column, and the answer is as after them
 module _ (m : Member) (lines : List Line) (opened : openedOf m .number ≡ 0) (h : NoneRefused (openedOf m .column) lines) where
   joined : Joined m [] lines
-  joined = none-refused m [] lines (rw (opened-column m opened) at h)
+  joined = none-refused m [] lines holdable-none (rw (opened-column m opened) at h)
 
   all-column : after (openedOf m .column) lines ≡ columnOf m lines
   all-column = rw (opened-column m opened) (joined .column)
-
-  all-accepted : accepted m lines ≡ lines
-  all-accepted =
-      let e : columnOf m (accepted m lines) ≡ columnOf m lines = sym (after-opened m lines opened) ∙ all-column in
-      sym (column-lines m (accepted m lines)) ∙ (ap linesOf e ∙ column-lines m lines)
 
   all-listed : (rest : List Line) (f : ℕ) → listedOf m (lines ++ rest) f ≡ listedFrom m lines rest f
   all-listed rest f = listed-opened m (lines ++ rest) f opened ∙ joined .listed rest f
@@ -116,30 +105,6 @@ module _ (m : Member) (lines : List Line) (opened : openedOf m .number ≡ 0) (h
   all-asked f = rw (append-nil lines) at (all-listed [] f)
 
 -- ---- every list, and its answer
-
--- a line that is entered before a list
-onward : (c : Column) (l : Line) (lines : List Line) → enteredOf c l .number ≡ 0
-    → NoneRefused (enteredOf c l .column) lines ⊎ Stops (enteredOf c l .column) lines → NoneRefused c (l ∷ lines) ⊎ Stops c (l ∷ lines)
-unfolding after
-onward c l lines e (inl h) = inl (more e h)
-onward c l lines e (inr s) =
-    inr (record {
-      before = l ∷ s .before;
-      line = s .line;
-      rest = s .rest;
-      is = ap (λ (ls : List Line). l ∷ ls) (s .is);
-      accepted = more e (s .accepted);
-      refused = s .refused;
-    })
-
--- no line of a list is refused, or a first one is
-pub every-list : EveryList
-unfolding after
-every-list c [] = inl none
-every-list c (l ∷ lines) =
-    by-number (enteredOf c l .number)
-    (λ e. onward c l lines e (every-list (enteredOf c l .column) lines))
-    (λ k. inr (record { before = []; line = l; rest = lines; is = refl; accepted = none; refused = k }))
 
 -- 01, Member, line, floor: the code's refusal
 pub at-opening : AtOpening
@@ -152,7 +117,7 @@ unfolding AtFirst
 at-first m lines f opened s =
     let ls = s .before in
     let number : enteredOf (after (openedOf m .column) ls) (s .line) .number ≡ entryNumber m ls (s .line) =
-    ap (λ (c : Column). enteredOf c (s .line) .number) (all-column m ls opened (s .accepted)) ∙ column-number m ls (s .line) in
+    ap (λ (c : Column). enteredOf c (s .line) .number) (all-column m ls opened (s .accepted)) ∙ column-number m ls (s .line) (joined m ls opened (s .accepted) .holdable) in
     ap (λ (ks : List Line). listedOf m ks f) (s .is)
     ∙ (all-listed m ls opened (s .accepted) (s .line ∷ s .rest) f
     ∙ (listed-stop m ls (s .line) (s .rest) f (rw number at (s .refused))
@@ -161,7 +126,7 @@ at-first m lines f opened s =
 -- 01, Member, line, floor: where no line is refused, the answer is that of opening the member, entering all and asking
 pub as-entered : AsEntered
 unfolding AsEntered columnOf
-as-entered m lines f opened h = rw (all-column m lines opened h, column-lines m lines) (all-asked m lines opened h f)
+as-entered m lines f opened h = rw (all-column m lines opened h, column-lines m lines (joined m lines opened h .holdable .lines)) (all-asked m lines opened h f)
 
 -- ---- an answer that gives a figure
 
@@ -180,23 +145,19 @@ figure-of-all m lines f w given =
 -- a line has the floor
 figure-floor : (m : Member) (ls : List Line) (f : ℕ) (w : Working) → atPlace 0 (askedOf m ls f) ≡ gives w → hasFloor f ls ≡ true
 unfolding atPlace askedOf
-figure-floor m ls f w h = go (hasFloor f ls) h
-  where
-    go : (b : Bool) → atPlace 0 (cond b (said.gives (workingOf m ls f)) (said.refused 7)) ≡ gives w → b ≡ true
-    go true h = refl
-    go false h = no-figure refl h
+figure-floor m ls f w =
+    cases (λ (b : Bool). atPlace 0 (cond b (said.gives (workingOf m ls f)) (said.refused 7)) ≡ gives w → b ≡ true) (hasFloor f ls) (λ e h. refl) (λ e h. no-figure refl h)
 
 -- 01, Reduced load and figure: the figure is within the bounds, over the lines of the list
 pub listed-bounds : (m : Member) (lines : List Line) (f : ℕ) → Bounds m lines f (listedOf m lines f)
-unfolding Bounds Claim atPlace AsEntered FigureOfAll
+unfolding Bounds Claim atPlace FigureOfAll
 listed-bounds m lines f w h =
     let all = figure-of-all m lines f w h in
-    let same = all-accepted m lines (all .0) (all .1) in
-    let floor : hasFloor f lines ≡ true = figure-floor m lines f w (sym (all-asked m lines (all .0) (all .1) f) ∙ h) in
-    let d = demand3 m lines f (all .0) (rw same floor) in
-    let given : gives (d .working) ≡ gives w = ap (atPlace 0) (sym (d .given)) ∙ (sym (as-entered m lines f (all .0) (all .1)) ∙ h) in
+    let e : atPlace 0 (askedOf m lines f) ≡ gives w = sym (all-asked m lines (all .0) (all .1) f) ∙ h in
+    let d = claimed m lines f (joined m lines (all .0) (all .1) .holdable .lines) (all .0) (figure-floor m lines f w e) in
+    let given : gives (d .working) ≡ gives w = ap (atPlace 0) (sym (d .given)) ∙ e in
     let is : d .working ≡ w = cc in
-    rw (same, is) at (d .bounded)
+    rw is at (d .bounded)
 
 -- so an answer that says what the definition says promises both
 pub promised : (m : Member) (lines : List Line) (f : ℕ) {t : Told ℕ Working} → t ≡ listedOf m lines f

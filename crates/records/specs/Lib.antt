@@ -1,6 +1,5 @@
--- The list call, and what its two passes keep.
+-- The list call, and what entering its lines in place keeps.
 pub mod Listed
 pub mod AsEntered
 pub mod Examples
-pub mod Checking
-pub mod Summing
+pub mod Entering

@@ -1,17 +1,19 @@
 // The list call: the figure of a lent list of line records, or the number and place of the first refusal.
 ghost use mathlib.Core.Path.{_≡_};
 ghost use Rattle.column.specs.Column.{memberOf};
-ghost use Rattle.records.specs.Listed.{listedOf, saidListed, Bounds};
-ghost use Rattle.records.specs.Summing.{answerOf};
-use checking::Checked;
+ghost use Rattle.figure.specs.Asked.{saidWorking};
+ghost use Rattle.records.specs.Entering.{Sits, outcomeOf, placeOf, answerOf};
+ghost use Rattle.records.specs.Listed.{atPlace, listedOf, saidListed, Bounds};
 use column::Line;
+use column::Member;
+use column::Places;
 use column::Verdict;
+use entering::Entered;
+use figure::Asked;
 use figure::Working;
 use refusal::Refusal;
-use summing::Summed;
 
-mod checking;
-mod summing;
+mod entering;
 
 // What a list gives: what holds at the floor, or the refusal and its place. Lines have the places 1, 2
 // and so on; the place is 0 where the code or the floor is refused.
@@ -20,29 +22,42 @@ pub enum Listed {
     Refused { refusal: Refusal, place: u64 },
 }
 
-// After both passes: the first refusal, that of the floor, or what holds there.
-fn answer_of(checked: Checked, summed: Summed) -> Listed
-    ensures { λ r. ⌜ saidListed r ≡ answerOf checked summed ⌝ }
+// The place of a refusal: 0 where opening was refused, which leaves a member of code 0, else one more
+// than the lines before it.
+fn place_of(member: Member, count: u16) -> u64
+    ensures { λ r. ⌜ r ≡ placeOf member count ⌝ }
 {
-    let verdict = checked.verdict;
+    if member.code == 0 {
+        return 0;
+    }
+    count as u64 + 1
+}
+
+// What asking gave, with the place 0 where it is refused.
+fn listed_of(asked: Asked) -> Listed
+    ensures { λ r. ⌜ saidListed r ≡ atPlace 0 (saidWorking asked) ⌝ }
+{
+    match asked {
+        Asked::Gives(working) => Listed::Gives(working),
+        Asked::Refused(refusal) => Listed::Refused {
+            refusal: refusal,
+            place: 0,
+        },
+    }
+}
+
+// After all lines: the first refusal, that of the floor, or what holds there.
+fn answer_of(held: &Places, entered: Entered, floor: u64) -> Listed
+    requires { ⌜ Sits entered (now held) ⌝ }
+    ensures { λ r. ⌜ saidListed r ≡ answerOf (outcomeOf entered (now (held .entry))) floor ⌝ }
+{
+    let member = entered.member;
+    let verdict = entered.verdict;
     match verdict {
-        Verdict::Accepted => {
-            if !checked.present {
-                return Listed::Refused {
-                    refusal: Refusal::NoLineAtFloor,
-                    place: 0,
-                };
-            }
-            let x = summed.influence;
-            Listed::Gives(Working {
-                floors: checked.floors,
-                influence: x,
-                figure: summed.figure,
-            })
-        }
+        Verdict::Accepted => listed_of(figure::ask_in(held, member, entered.count, floor)),
         Verdict::Refused(refusal) => Listed::Refused {
             refusal: refusal,
-            place: checked.place,
+            place: place_of(member, entered.count),
         },
     }
 }
@@ -52,7 +67,8 @@ fn answer_of(checked: Checked, summed: Summed) -> Listed
 pub fn figure_of(code: u64, lines: &[Line], floor: u64) -> Listed
     ensures { λ r. ⌜ (saidListed r ≡ listedOf (memberOf code) (now (lines .entry)) floor) × Bounds (memberOf code) (now (lines .entry)) floor (saidListed r) ⌝ }
 {
-    let checked = checking::all_checked(checking::begun(code, floor), lines);
-    let summed = summing::all_summed(summing::begun(checked), lines);
-    answer_of(checked, summed)
+    let first = entering::begun(code);
+    let mut held = entering::empty();
+    let entered = entering::enter_all(&mut held, first, lines);
+    answer_of(&held, entered, floor)
 }

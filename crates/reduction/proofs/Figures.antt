@@ -10,7 +10,7 @@ use Rattle.refusal.specs.Said.{Said, gives, refused}
 use Rattle.reduction.specs.declared.InfluenceArea.{InfluenceArea}
 use Rattle.reduction.specs.declared.share.Share.the-variants.{Root}
 use Rattle.reduction.specs.Numbers.{leastFrom}
-use Rattle.refusal.specs.Lists.{All, none, more}
+use Rattle.lists.specs.Lists.{All, none, more}
 use Rattle.member.specs.Line.{isFormula}
 use Rattle.reduction.specs.Share.{dm², oneFloor, rootAtLeast, rootAtMost, leastTwentieths, formulaShare, otherTwentieths, shareOf}
 use Rattle.reduction.specs.Reduced.{reaches, reduced, reducedOf}

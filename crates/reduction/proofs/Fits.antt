@@ -18,7 +18,7 @@ use Rattle.reduction.specs.Fit.{Bounds, Fit}
 use Rattle.reduction.proofs.Squares.{sq-le}
 use Rattle.reduction.proofs.Root.{cap-last}
 use Rattle.reduction.proofs.Shares.{formula-cases, share-cases, least-within, other-within}
-use Rattle.reduction.proofs.Reduced.{at-most, above, reduced-at-most-load}
+use Rattle.reduction.proofs.Reduced.{reduced-reaches, at-most, above, reduced-at-most-load}
 
 -- the root is left only between the cap and the least share
 root-above : (x : InfluenceArea) → rootAtLeast 20 x ≡ false → 3713 ≤ x .0
@@ -85,6 +85,9 @@ module _ {s : Share} {load : ℕ} (h : Fit s load) where
 
   one : AtMostOne s
   one = bounds-one s load (h .bounds)
+
+  pub fit-reaches : reaches s load (reduced s load) ≡ true
+  fit-reaches = reduced-reaches s load one
 
   -- what does not reach is below the reduced load, what reaches is not, and the load is not
   pub fit-above : {j : ℕ} → reaches s load j ≡ false → j < reduced s load

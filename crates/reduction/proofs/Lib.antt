@@ -7,3 +7,4 @@ pub mod Reduced
 pub mod Twentieths
 pub mod Figures
 pub mod Fits
+pub mod Scales

@@ -1,15 +1,16 @@
 -- The root 1/4 + 45.7/√X against so many twentieths, told by squares.
 -- Assumes nothing.
-use mathlib.Core.Path.{_≡_, refl, sym, _∙_, ap}
-use mathlib.Core.Bool.{Bool, true, false, and-eq-true-iff}
+use mathlib.Core.Path.{_≡_, sym, _∙_, ap}
+use mathlib.Core.Bool.{true, false, and-eq-true-iff}
 use mathlib.Core.Logic.{⊎-elim}
 use Prim.Native.Nat.{ℕ, _+_, _*_, _-_, _≤_, _<_}
 use native.Mathlib.Nat.{mul-assoc, mul-comm, add-mul, zero-mul, mul-zero, mul-le-mul-left, mul-le-mul-right, le-of-mul-le-mul-left}
-use native.Mathlib.Nat.{le-trans, le-of-lt, not-le-of-lt, lt-of-not-le, eq-zero-or-pos}
+use native.Mathlib.Nat.{le-trans, le-of-lt, lt-of-not-le, eq-zero-or-pos}
 use native.Mathlib.Decide.{decLe}
 use native.Mathlib.Omega.{arith}
 use lib.Dec.{leb}
-use borrow.Author.Tests.{leb-true, leb-false, le-leb, lt-leb}
+use borrow.Author.Tests.{leb-true, leb-false, le-leb}
+use Rattle.lists.proofs.Tests.{same-test}
 use Rattle.reduction.specs.declared.InfluenceArea.{InfluenceArea}
 use Rattle.reduction.specs.declared.share.Share.the-variants.{Twentieths, Root}
 use Rattle.reduction.specs.Numbers.{sq}
@@ -18,7 +19,7 @@ use Rattle.reduction.specs.Reduced.{reaches}
 use Rattle.reduction.proofs.Squares.{sq-le, sq-le⁻¹, sq-mul, sq-five}
 
 -- (d load)² x is d² x load²
-regroup : (d x load : ℕ) → x * sq (d * load) ≡ sq d * x * sq load
+pub regroup : (d x load : ℕ) → x * sq (d * load) ≡ sq d * x * sq load
 regroup d x load =
     ap (λ (n : ℕ). x * n) (sq-mul d load) ∙ (sym (mul-assoc x (sq d) (sq load)) ∙ ap (λ (n : ℕ). n * sq load) (mul-comm x (sq d)))
 
@@ -94,13 +95,6 @@ unfolding rootAtLeast rootAtMost
 not-at-most k x e = other-way (sq 914) (sq (k - 5) * x .0) e
 
 -- Where the cap ends, and where the shares 1/2 and 2/5 begin, in whole dm².
-same-test : (a b c d : ℕ) → (a ≤ b → c ≤ d) → (c ≤ d → a ≤ b) → leb a b ≡ leb c d
-same-test a b c d f g = go (leb c d) refl
-  where
-    go : (t : Bool) → leb c d ≡ t → leb a b ≡ leb c d
-    go true e = le-leb a b (g (leb-true c d e)) ∙ sym e
-    go false e = lt-leb a b (lt-of-not-le (λ h. not-le-of-lt (leb-false c d e) (f h))) ∙ sym e
-
 pub cap-last : (x : InfluenceArea) → rootAtLeast 20 x ≡ leb (x .0) 3712
 unfolding rootAtLeast
 cap-last x = same-test (225 * x .0) (sq 914) (x .0) 3712 (λ h. omega arith) (λ h. omega arith)

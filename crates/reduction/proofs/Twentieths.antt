@@ -11,7 +11,7 @@ use Rattle.reduction.specs.declared.share.Share.{Share}
 use Rattle.reduction.specs.declared.share.Share.the-variants.{Twentieths, Root}
 use Rattle.member.specs.Line.{isFormula}
 use Rattle.reduction.specs.Share.{formulaShare, clampedShare, clampedOf, otherTwentieths, shareOf, AtMostOne}
-use Rattle.reduction.specs.Reduced.{reaches, reduced, roundedUp}
+use Rattle.reduction.specs.Reduced.{reaches, reduced}
 use Rattle.reduction.proofs.Shares.{formula-at-most-one}
 use Rattle.reduction.proofs.Reduced.{reduced-reaches, at-most}
 
@@ -53,8 +53,3 @@ twentieths-least k load h =
     le-antisymm
     (at-most (Twentieths k) load h ((k * load + 19) / 20) (le-leb (k * load) (20 * ((k * load + 19) / 20)) (omega arith)))
     (omega (arith, leb-true (k * load) (20 * reduced (Twentieths k) load) (reduced-reaches (Twentieths k) load h)))
-
--- within the limits rounding up gives the reduced load
-pub rounded-up-known : (k load : ℕ) → k ≤ 20 → load ≤ 50000 → roundedUp k load ≡ reduced (Twentieths k) load
-unfolding roundedUp
-rounded-up-known k load h l = rw (le-leb k 20 h, le-leb load 50000 l)

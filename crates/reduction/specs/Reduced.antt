@@ -21,11 +21,6 @@ reaches (Root x) load r = leb load (4 * r) && leb (sq (914 * load)) (25 * x .0 *
 unfoldable pub reduced : Share → ℕ → ℕ
 reduced s load = leastFrom (reaches s load) 0 (46 * load)
 
--- 01, Reduced load and figure: R where the share is so many twentieths, "rounded up". The papers have no more than 20 of them,
--- and loads of 50,000 or less; elsewhere they leave it free, and it is 0
-unfoldable pub roundedUp : ℕ → ℕ → ℕ
-roundedUp k load = cond (leb k 20 && leb load 50000) (reduced (Twentieths k) load) 0
-
 -- 01, Reduced load and figure: r is the least whole number not below share × Lo
 pub record Least (s : Share) (load r : ℕ) : Type 0 where
   pub reached : reaches s load r ≡ true

@@ -1,17 +1,20 @@
 // CIRSOC 101, 4.7: the share of a live load, and the reduced load.
 ghost use mathlib.Core.Path.{_≡_};
 ghost use mathlib.Core.Bool.{true};
+ghost use Prim.Native.Nat.{_≤_};
 ghost use Rattle.member.specs.Line.{isFormula};
 ghost use Rattle.refusal.specs.Said.{said};
 ghost use Rattle.reduction.specs.Share.{otherTwentieths, clampedOf};
-ghost use Rattle.reduction.specs.Reduced.{reducedOf, roundedUp};
+ghost use Rattle.reduction.specs.Reduced.{reducedOf};
 ghost use Rattle.reduction.specs.Estimate.{estimateOf};
+ghost use Rattle.reduction.specs.Scale.{scaleOf};
 use member::limits;
 use refusal::Answer;
 use refusal::Refusal;
 use share::Share;
 
 mod rounding;
+mod scale;
 mod share;
 
 // The area that the reduction goes by: K times the summed tributary area of the formula lines
@@ -47,25 +50,23 @@ pub fn other_twentieths(class: u64, floors: u64) -> u64
     16
 }
 
-// So many twentieths of a load, rounded up. The papers leave more than 20 of them, and a load above
-// 50,000, free: it is then 0.
-pub fn rounded_up(twentieths: u64, load: u64) -> u64
-    ensures { λ r. ⌜ r ≡ roundedUp twentieths load ⌝ }
-{
-    if 20 < twentieths {
-        return 0;
-    }
-    if 50000 < load {
-        return 0;
-    }
-    rounding::twentieths_of(twentieths, load)
-}
-
 // Where the search for reduced loads begins, for all lines at n floors and the influence area x.
 pub fn root_estimate(floors: u64, x: InfluenceArea) -> RootEstimate
     ensures { λ r. ⌜ r ≡ estimateOf floors x ⌝ }
 {
     RootEstimate(rounding::scale_of(share::formula_share(floors, x)))
+}
+
+// The root part of 4 × share in units of 2⁻¹⁹, rounded down, for all formula lines at n floors and
+// the influence area x; 0 where their share is clamped. By it most reduced loads need no search.
+pub fn root_scale(floors: u64, x: InfluenceArea) -> u64
+    ensures { λ r. ⌜ (r ≡ scaleOf floors x) × (r ≤ 1572863) ⌝ }
+{
+    let formula = share::formula_share(floors, x);
+    match formula {
+        Share::Twentieths(_) => 0,
+        Share::Root(y) => scale::rounded_down(y),
+    }
 }
 
 // The reduced load R of a line that the formula is not for, or of one without a load; refused where

@@ -67,7 +67,7 @@ fn highest_chord(x: InfluenceArea) -> u64
 }
 
 // About 914 / (5 √X) units, to 2 in 10,000: one of Newton's steps from a chord, with one division.
-fn root_scale(x: InfluenceArea) -> u64
+pub fn near_scale(x: InfluenceArea) -> u64
     requires { ⌜ (3713 ≤ x .0) × (x .0 ≤ 92821) ⌝ }
     ensures { λ r. ⌜ r ≡ newton (x .0) (highestChord (x .0)) ⌝ }
 {
@@ -82,7 +82,7 @@ pub fn scale_of(share: Share) -> u64
 {
     match share {
         Share::Twentieths(_) => 0,
-        Share::Root(x) => root_scale(x),
+        Share::Root(x) => near_scale(x),
     }
 }
 

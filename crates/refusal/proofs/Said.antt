@@ -1,10 +1,13 @@
 -- What an answer says leaves one answer: each refusal has its own number.
 -- Assumes nothing.
 use mathlib.Core.Path.{_≡_, refl, sym, _∙_, ap}
+use mathlib.Core.Bool.{false}
 use mathlib.Core.List.{List, [], _∷_}
-use Prim.Native.Nat.{ℕ, _-_, _≤_}
+use Prim.Native.Nat.{ℕ, zero, suc, _-_, _≤_}
 use native.Mathlib.Omega.{arith}
+use lib.Dec.{eqb}
 use lib.ListN.{getD}
+use borrow.Author.Tests.{ne-eqb}
 use Rattle.refusal.specs.declared.Refusal.{Refusal}
 use Rattle.refusal.specs.declared.Refusal.the-variants.{UnknownCode, TooManyLines, FloorOutOfRange, UnknownClass, LoadOutOfRange, AreaOutOfRange}
 use Rattle.refusal.specs.declared.Refusal.the-variants.{NoLineAtFloor, EffectNotWhole, EffectOutOfRange, SheetMalformed, SheetTooLong}
@@ -77,6 +80,14 @@ number-positive EffectNotWhole = omega arith
 number-positive EffectOutOfRange = omega arith
 number-positive SheetMalformed = omega arith
 number-positive SheetTooLong = omega arith
+
+-- so a number tells whether something is refused
+pub by-number : {P : Type 0} (n : ℕ) → (n ≡ 0 → P) → (1 ≤ n → P) → P
+by-number zero none some = none refl
+by-number (suc n) none some = some (omega arith)
+
+pub not-zero : {n : ℕ} → 1 ≤ n → eqb n 0 ≡ false
+not-zero {n} h = ne-eqb n 0 (λ q. omega arith)
 
 -- an answer that says what it gives, gives that number and is no refusal
 pub gives-it : {a : Answer} {n k : ℕ} → a ≡ Gives n → said a ≡ gives k → n ≡ k

@@ -2,4 +2,3 @@
 pub mod Refusal
 pub mod Said
 pub mod Told
-pub mod Lists

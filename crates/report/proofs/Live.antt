@@ -10,14 +10,10 @@ use lib.IntN.{ℤ, natAbs}
 use lib.Ieee.{binary64, inFloat}
 use mir.Syntax.{w64}
 use mir.Val.{toZ, ofZ}
-use Rattle.refusal.specs.Said.{Said, gives, refused}
-use Rattle.refusal.specs.Lists.{All, none, more}
+use Rattle.lists.specs.Lists.{All, none, more}
 use Rattle.column.specs.declared.Column.{Column}
-use Rattle.figure.specs.declared.Working.{Working}
-use Rattle.column.specs.Accepted.{lastFloor}
-use Rattle.column.specs.Column.{linesOf, Reached}
-use Rattle.figure.specs.Asked.{asked}
-use Rattle.figure.proofs.Most.{asked-most}
+use Rattle.column.specs.Column.{Reached}
+use Rattle.figure.proofs.Lowest.{lowest-most}
 use Rattle.newtons.specs.Effect.{limit}
 use Rattle.effects.specs.Check.{newtonsOf}
 use Rattle.effects.specs.Fit.{EachAtMost, Seven}
@@ -26,21 +22,12 @@ use Rattle.newtons.proofs.Values.{in-float}
 use Rattle.sheet.specs.declared.SheetEffects.{SheetEffects}
 use Rattle.sheet.specs.declared.Sheet.{Sheet}
 use Rattle.sheet.specs.Keeps.{EffectsWithin, Keeps}
-use Rattle.report.specs.Report.{figureIn, liveOf, effectsWith, effectsOf}
+use Rattle.report.specs.Report.{liveOf, effectsWith, effectsOf}
 
--- no figure is above the largest
-pub figure-most : {c : Column} → Reached c → (f : ℕ) → figureIn (asked c f) ≤ 2560000000000
-unfolding figureIn
-figure-most {c} r f = go (asked c f) refl
-  where
-    go : (s : Said Working) → asked c f ≡ s → figureIn s ≤ 2560000000000
-    go (gives w) e = asked-most f r e .figure
-    go (refused n) e = omega arith
-
--- so the live effect is within the limit
+-- the live effect is within the limit
 pub live-most : {c : Column} → Reached c → liveOf c ≤ limit
 unfolding liveOf
-live-most {c} r = omega (arith, figure-most r (lastFloor (linesOf c)))
+live-most r = omega (arith, lowest-most r)
 
 -- a list of which each number is at most so large
 each-of : {most : ℕ} {zs : List ℤ} → All (λ z. natAbs z ≤ most) zs → EachAtMost most zs

@@ -11,20 +11,20 @@ use lib.ListN.{length, getD, List·getD-append}
 use lib.Seq.{getD-append-add}
 use borrow.Author.Tests.{ne-eqb}
 use Rattle.refusal.specs.Said.{Said, gives, refused}
-use Rattle.refusal.specs.Lists.{All, none, more}
+use Rattle.lists.specs.Lists.{All, none, more, some}
 use Rattle.column.specs.declared.Line.{Line}
 use Rattle.column.specs.declared.Column.{Column}
 use Rattle.figure.specs.declared.Working.{Working}
-use Rattle.figure.specs.Lists.{some}
 use Rattle.figure.specs.Carried.{carried, hasFloor, floorsOf}
-use Rattle.column.specs.Accepted.{lastFloor}
 use Rattle.column.specs.Column.{linesOf}
 use Rattle.figure.specs.Asked.{workingOf, askedOf, asked}
+use Rattle.figure.specs.Lowest.{figureIn}
 use Rattle.figure.specs.Workings.{workingNumbers, workingsOf}
+use Rattle.column.proofs.Reach.{sound-lines}
 use Rattle.column.specs.Sound.{InLimits, Sound}
-use Rattle.figure.proofs.From.{has-carried, has-some}
+use Rattle.figure.proofs.Carried.{has-carried, has-some}
 use Rattle.figure.proofs.Workings.{workings-length}
-use Rattle.report.specs.Report.{floorLineOf, floorLines, figureIn}
+use Rattle.report.specs.Report.{floorLineOf, floorLines}
 use Rattle.report.specs.Table.{workingFrom, lineOf, workingAfter, tableLines, figureAt}
 
 -- the numbers of a floor stand where its place is
@@ -91,17 +91,11 @@ lines-to c (suc f) h = rw (lines-to c f (omega arith), after-is c f h, line-is c
 pub table-lines : (c : Column) → tableLines (workingsOf c 64) 64 ≡ floorLines c 64
 table-lines c = lines-to c 64 (omega arith)
 
--- lines within their limits have no floor 0 and none above 64
+-- no line within its limits has floor 0
 none-at-zero : {ls : List Line} → All InLimits ls → hasFloor 0 ls ≡ false
 unfolding hasFloor some
 none-at-zero none = refl
 none-at-zero (more {x} q a) = rw (ne-eqb (x .floor) 0 (λ e. omega (arith, q .floor))) (none-at-zero a)
-
-pub last-most : {ls : List Line} → All InLimits ls → lastFloor ls ≤ 64
-unfolding lastFloor
-last-most none = omega arith
-last-most (more q none) = q .floor .1
-last-most (more q (more p a)) = last-most (more p a)
 
 figure-of : (s : Said Working) → numbersWorking s .figure ≡ figureIn s
 unfolding workingNumbers figureIn
@@ -111,7 +105,7 @@ figure-of (refused n) = refl
 -- the figure at a floor of the table is that of asking there
 pub figure-is : (c : Column) → Sound c → (f : ℕ) → f ≤ 64 → figureAt (workingsOf c 64) f ≡ figureIn (asked c f)
 unfolding figureAt figureIn askedOf
-figure-is c ok zero h = rw (none-at-zero (ok .lines))
+figure-is c ok zero h = rw (none-at-zero (sound-lines ok))
 figure-is c ok (suc f) h =
     let e : suc f - 1 ≡ f = omega arith in
     rw (e, ne-eqb (suc f) 0 (λ z. omega arith)) (ap (λ (w : Working). w .figure) (after-is c f h) ∙ figure-of (asked c (suc f)))

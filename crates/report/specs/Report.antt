@@ -9,9 +9,10 @@ use Rattle.text.specs.Text.{bytesOf, ended, decimal, signedDecimal}
 use Rattle.refusal.specs.Said.{Said, gives, refused}
 use Rattle.column.specs.declared.Column.{Column}
 use Rattle.figure.specs.declared.Working.{Working}
-use Rattle.column.specs.Accepted.{lastFloor}
+use Rattle.column.specs.Line.{lowestFloor}
 use Rattle.column.specs.Column.{linesOf}
 use Rattle.figure.specs.Asked.{asked}
+use Rattle.figure.specs.Lowest.{lowestFigure}
 use Rattle.effects.specs.declared.Newtons.{Newtons}
 use Rattle.effects.specs.Check.{newtonsOf}
 use Rattle.combination.specs.declared.GoverningRow.{GoverningRow}
@@ -41,14 +42,9 @@ unfoldable pub floorLines : Column → ℕ → List ℕ
 floorLines c zero = []
 floorLines c (suc f) = floorLines c f ++ floorLineOf (suc f) (asked c (suc f))
 
--- 01, The sheet: the figure that asking gives; "0 without lines"
-unfoldable pub figureIn : Said Working → ℕ
-figureIn (gives w) = w .figure
-figureIn (refused n) = 0
-
--- 01, The sheet: "The live effect is the figure at the last floor, divided by 100 and rounded up"
+-- 01, The sheet: "The live effect is the figure at the last floor, divided by 100 and rounded up", and "0 without lines"
 unfoldable pub liveOf : Column → ℕ
-liveOf c = (figureIn (asked c (lastFloor (linesOf c))) + 99) / 100
+liveOf c = (lowestFigure (c .member) (linesOf c) + 99) / 100
 
 -- 01, Effects and the 25 combinations: the six effects of a sheet, with the live effect among them
 unfoldable pub effectsWith : SheetEffects → ℕ → Newtons
@@ -77,7 +73,7 @@ governingLines g = governingLine (bytesOf "max=") (g .greatest) ++ governingLine
 
 -- 01, The sheet: what is printed of a sheet that is read; "without floors only the last two lines"
 unfoldable pub takedownOf : Sheet → List ℕ
-takedownOf s = floorLines (s .column) 64 ++ governingLines (governing (newtonsOf (effectsOf s)))
+takedownOf s = floorLines (s .column) lowestFloor ++ governingLines (governing (newtonsOf (effectsOf s)))
 
 -- 01, The sheet: "A refused sheet prints only `refused=N line=K`"
 unfoldable pub refusalLine : ℕ → ℕ → List ℕ

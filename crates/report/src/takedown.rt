@@ -6,20 +6,26 @@ ghost use Rattle.text.specs.Put.{Put};
 ghost use Rattle.newtons.specs.Effect.{limit};
 ghost use Rattle.effects.specs.Check.{newtonsOf, doublesOf};
 ghost use Rattle.combination.specs.Combine.{governing};
+ghost use Rattle.column.specs.Line.{lowestFloor};
 ghost use Rattle.sheet.specs.Keeps.{EffectsWithin, Keeps};
 ghost use Rattle.report.specs.Report.{effectsWith, governingLines, takedownOf};
 ghost use Rattle.report.specs.Table.{lineOf, workingAfter, tableLines, figureAt};
 use crate::lines;
 use combination::Combined;
 use effects::Effects;
+use figure::NUMBERS;
+use figure::Table;
 use figure::Working;
 use reduction::InfluenceArea;
 use sheet::Sheet;
 use sheet::SheetEffects;
 
+// How many floors there can be.
+const FLOORS: usize = column::LOWEST_FLOOR as usize;
+
 // The working of a floor by its numbers in a table.
-fn working_after(table: &[u64; 192], floors: usize) -> Working
-    requires { ⌜ floors + 1 ≤ 64 ⌝ }
+fn working_after(table: &Table, floors: usize) -> Working
+    requires { ⌜ floors + 1 ≤ lowestFloor ⌝ }
     ensures { λ r. ⌜ r ≡ workingAfter (now (table .entry)) floors ⌝ }
 {
     let at = 3 * floors;
@@ -42,13 +48,13 @@ fn put_floor(out: &mut [u8], at: usize, floor: u64, working: Working) -> usize
 }
 
 // Puts the lines of all floors, top first.
-fn put_floors(out: &mut [u8], table: &[u64; 192]) -> usize
-    requires { ⌜ length (tableLines (now table) 64) ≤ length (now out) ⌝ }
-    ensures { λ r. ⌜ Put (now (out .entry)) 0 (tableLines (now (table .entry)) 64) (now (out .exit)) r ⌝ }
+fn put_floors(out: &mut [u8], table: &Table) -> usize
+    requires { ⌜ length (tableLines (now table) lowestFloor) ≤ length (now out) ⌝ }
+    ensures { λ r. ⌜ Put (now (out .entry)) 0 (tableLines (now (table .entry)) lowestFloor) (now (out .exit)) r ⌝ }
 {
     let mut at = 0;
     let mut floors: usize = 0;
-    while floors < 64 {
+    while floors < FLOORS {
         let working = working_after(table, floors);
         floors += 1;
         at = put_floor(out, at, floors as u64, working);
@@ -57,8 +63,8 @@ fn put_floors(out: &mut [u8], table: &[u64; 192]) -> usize
 }
 
 // The figure at the last floor in whole newtons, rounded up; 0 without lines.
-fn live_effect(table: &[u64; 192], last: u64) -> u64
-    requires { ⌜ (last ≤ 64) × (figureAt (now table) last ≤ 2560000000000) ⌝ }
+fn live_effect(table: &Table, last: u64) -> u64
+    requires { ⌜ (last ≤ lowestFloor) × (figureAt (now table) last ≤ 2560000000000) ⌝ }
     ensures { λ r. ⌜ (r ≡ (figureAt (now (table .entry)) last + 99) / 100) × (r ≤ limit) ⌝ }
 {
     if last == 0 {
@@ -110,7 +116,7 @@ pub fn put_takedown(out: &mut [u8], sheet: Sheet) -> usize
     let column = sheet.column;
     let effects = sheet.effects;
     let member = column.member;
-    let mut table = [0u64; 192];
+    let mut table = [0u64; NUMBERS];
     figure::work_out(&column.held, member, column.count, &mut table);
     let last = column::last_floor(&column.held, member, column.count);
     let live = live_effect(&table, last);

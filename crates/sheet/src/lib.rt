@@ -2,12 +2,14 @@
 ghost use mathlib.Core.Path.{_≡_};
 ghost use mathlib.Core.List.{List};
 ghost use Prim.Native.Nat.{ℕ};
-ghost use lib.ListN.{replicate};
+ghost use Rattle.column.specs.Column.{noPlaces};
 ghost use Rattle.sheet.specs.Sheet.{reading, readSheet, offendingOf, offendingAt};
 ghost use Rattle.sheet.specs.Keeps.{Keeps};
 ghost use Rattle.sheet.specs.InPlace.{draftOf, summarySheet, readingOf};
 use column::Column;
+use column::LINES;
 use column::Member;
+use column::Places;
 use refusal::Refusal;
 use steps::Progress;
 
@@ -83,8 +85,8 @@ fn malformed(line: u64, start: usize, end: usize, progress: Progress) -> Summary
 
 // Reads a sheet line by line, each its form and then its values, with the lines' numbers put into
 // places that are all 0.
-fn read_in(held: &mut [u32; 1024], text: &[u8]) -> Summary
-    requires { ⌜ now held ≡ replicate 1024 0 ⌝ }
+fn read_in(held: &mut Places, text: &[u8]) -> Summary
+    requires { ⌜ now held ≡ noPlaces ⌝ }
     ensures { λ r. ⌜ readingOf r (now (held .exit)) ≡ readSheet (now (text .entry)) ⌝ }
     ensures { λ r. ⌜ (r .number ≡ 0 → Keeps (summarySheet r (now (held .exit)))) ⌝ }
 {
@@ -118,7 +120,7 @@ fn read_in(held: &mut [u32; 1024], text: &[u8]) -> Summary
 pub fn read(text: &[u8]) -> Reading
     ensures { λ r. ⌜ (r ≡ readSheet (now (text .entry))) × (r .number ≡ 0 → Keeps (r .sheet)) ⌝ }
 {
-    let mut held = [0u32; 1024];
+    let mut held = [0u64; LINES];
     let summary = read_in(&mut held, text);
     let member = summary.member;
     let effects = summary.effects;

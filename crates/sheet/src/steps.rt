@@ -2,8 +2,7 @@
 ghost use mathlib.Core.Path.{_≡_};
 ghost use mathlib.Core.List.{List};
 ghost use Prim.Native.Nat.{ℕ};
-ghost use lib.ListN.{replicate};
-ghost use Rattle.column.specs.Column.{columnFrom, unopened, Reached};
+ghost use Rattle.column.specs.Column.{noPlaces, columnFrom, unopened, Reached};
 ghost use Rattle.form.specs.declared.Form.the-variants as Form;
 ghost use Rattle.sheet.specs.Sheet.{unread, dueAfter, isComplete, withEffect, effectNumber, valued, lineTaken};
 ghost use Rattle.sheet.specs.Keeps.{KeepsSoFar};
@@ -11,6 +10,7 @@ ghost use Rattle.sheet.specs.InPlace.{draftOf, takenOf};
 use crate::SheetEffects;
 use column::Line;
 use column::Member;
+use column::Places;
 use form::Due;
 use form::Form;
 use refusal::Refusal;
@@ -32,7 +32,7 @@ pub struct Step {
 
 // Before the first line: no member is opened, and all effects are 0.
 pub fn unread() -> Progress
-    ensures { λ r. ⌜ draftOf r (replicate 1024 0) ≡ unread ⌝ }
+    ensures { λ r. ⌜ draftOf r noPlaces ≡ unread ⌝ }
 {
     Progress {
         due: Due::Member,
@@ -155,7 +155,7 @@ fn open_member(progress: Progress, code: u64) -> Step
 }
 
 // The sheet with a line that is entered; as it was where entering is refused.
-fn enter_line(held: &mut [u32; 1024], progress: Progress, line: Line) -> Step
+fn enter_line(held: &mut Places, progress: Progress, line: Line) -> Step
     requires { ⌜ Reached (columnFrom (progress .member) (progress .count) (now held)) ⌝ }
     ensures { λ r. ⌜ takenOf r (now (held .exit)) ≡ valued (draftOf progress (now (held .entry))) (Form.Floor line) ⌝ }
 {
@@ -207,7 +207,7 @@ fn take_effect(progress: Progress, newtons: i64) -> Step
 }
 
 // The sheet after a line, given without its newline: its form, then its values.
-pub fn take_line(held: &mut [u32; 1024], progress: Progress, line: &[u8]) -> Step
+pub fn take_line(held: &mut Places, progress: Progress, line: &[u8]) -> Step
     requires { ⌜ KeepsSoFar (progress .due) (draftOf progress (now held) .sheet) ⌝ }
     ensures { λ r. ⌜ takenOf r (now (held .exit)) ≡ lineTaken (draftOf progress (now (held .entry))) (now (line .entry)) ⌝ }
 {

@@ -18,8 +18,8 @@ use Rattle.column.specs.Accepted.{lastFloor, entryNumber}
 use Rattle.column.specs.Column.{linesOf, columnOf, openedOf, enteredOf}
 use Rattle.column.proofs.Lines.{lines-length}
 use Rattle.column.proofs.Columns.{column-lines}
-use Rattle.column.proofs.Reach.{no-condition, reached-is, sound}
-use Rattle.column.proofs.InTurn.{AcceptedInTurn, none, more, reached-in-turn}
+use Rattle.column.proofs.Reach.{Holdable, no-condition, reached-is, sound}
+use Rattle.column.proofs.InTurn.{AcceptedInTurn, none, more, reached-in-turn, in-turn-holdable}
 use Rattle.newtons.specs.Effect.{magnitudeOf, limit}
 use Rattle.form.specs.declared.Due.the-variants as D
 use Rattle.form.specs.declared.Form.the-variants as F
@@ -67,13 +67,13 @@ member-taken : (m : Member) → between 1 12 (m .code) ≡ true
 unfolding lineTaken formOf valued ifTaken openedOf
 member-taken m h = rw (member-to (m .code) (omega (arith, limits 1 12 (m .code) h)), h)
 
-floor-taken : (m : Member) (ls : List Line) (x : Line) → entryNumber m ls x ≡ 0
+floor-taken : (m : Member) (ls : List Line) (x : Line) → Holdable ls → entryNumber m ls x ≡ 0
     → lineTaken (lined (columnOf m ls)) (floorText x) ≡ record { number = 0; draft = lined (columnOf m (ls ++ (x ∷ []))) }
 unfolding lineTaken formOf valued ifTaken enteredOf columnOf entryNumber
-floor-taken m ls x h =
+floor-taken m ls x held h =
     let ok = no-condition m (length ls) (lastFloor ls) x h .1 in
     let f : floorForm (floorText x) ≡ F.Floor x = floor-to x (omega arith) (omega arith) (omega arith) (omega arith) in
-    rw (floor-begins x, f, column-lines m ls, h)
+    rw (floor-begins x, f, column-lines m ls (held .lines), h)
 
 effect-taken : (d : Draft) (l : List ℕ) (z : ℤ) → formOf (d .due) l ≡ F.Effect z → magnitudeOf z ≤ limit
     → lineTaken d l ≡ record { number = 0; draft = withNext d z }
@@ -94,7 +94,7 @@ reads-lines {m} h (more ls x a e) =
     let b = ended (memberText (m .code)) in
     let n : length (ls ++ (x ∷ [])) * 78 + 21 ≡ length ls * 78 + 21 + 78 = omega (arith, length-append ls (x ∷ [])) in
     rw (n, floors-more ls x, length-append ls (x ∷ []), ← append-assoc b (floorTexts ls) (ended (floorText x)))
-    (reads-more (floorText x) 78 (floor-clean x) short (floor-taken m ls x e) (reads-lines h a))
+    (reads-more (floorText x) 78 (floor-clean x) short (floor-taken m ls x (in-turn-holdable a) e) (reads-lines h a))
 
 -- one effect more
 reads-effect : {b : List ℕ} {k most : ℕ} {d : Draft} (key : List ℕ) (z : ℤ) → newlines key ≡ 0 → formOf (d .due) (effectText key z) ≡ effectForm key (effectText key z)
@@ -108,7 +108,7 @@ module _ (s : Sheet) (ok : Keeps s) where
   floors = length (linesOf (s .column))
 
   few : floors ≤ 256
-  few = let q = sound (ok .column) in omega (arith, lines-length (s .column) (omega arith))
+  few = let q = sound (ok .column) .held in omega (arith, lines-length (s .column) (omega arith))
 
   reads-before : ReadsTo (beforeDead s) (floors + 1) (floors * 78 + 21) (lined (s .column))
   unfolding beforeDead

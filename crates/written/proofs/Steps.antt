@@ -4,13 +4,16 @@ use mathlib.Core.Path.{_≡_, refl, sym}
 use mathlib.Core.Bool.{Bool, true, false, cond}
 use mathlib.Core.List.{List, [], _∷_, _++_, append-nil, append-assoc}
 use Prim.Native.Nat.{ℕ}
+use lib.ListN.{length}
 use native.Mathlib.Omega.{arith}
 use lib.IntN.{ℤ}
 use Rattle.text.specs.Text.{bytesOf, ended}
 use Rattle.column.specs.declared.Line.{Line}
+use Rattle.lists.specs.Lists.{none}
+use Rattle.column.specs.Accepted.{lastFloor, entryNumber}
 use Rattle.column.specs.Column.{linesOf, columnOf, memberOf, enteredOf}
-use Rattle.column.proofs.Columns.{column-lines}
-use Rattle.column.proofs.Reach.{opened-column}
+use Rattle.column.proofs.Columns.{column-lines, more-lines}
+use Rattle.column.proofs.Reach.{no-condition, opened-column}
 use Rattle.form.specs.declared.Due.{Due}
 use Rattle.form.specs.declared.Due.the-variants as D
 use Rattle.form.specs.declared.Form.{Form}
@@ -50,17 +53,17 @@ module _ (s : Sheet) (l : List ℕ) where
   unfolding valued ifTaken writtenBefore beforeDead floorTexts columnOf
   adds-member =
       of-only (member-only l) (Adds (at D.Member) l)
-      (λ code e h. rw (h, opened-column (memberOf code) h, column-lines (memberOf code) [], member-from l code e) (append-nil (ended (memberText code))))
+      (λ code e h. rw (h, opened-column (memberOf code) h, column-lines (memberOf code) [] none, member-from l code e) (append-nil (ended (memberText code))))
       (malformed D.Member)
 
   adds-floor : Adds (at D.FloorOrDead) l (floorForm l)
-  unfolding valued ifTaken writtenBefore beforeDead columnOf enteredOf
+  unfolding valued ifTaken writtenBefore beforeDead columnOf enteredOf entryNumber
   adds-floor =
       let c = s .column in
       let ls = linesOf c in
       of-only (floor-only l) (Adds (at D.FloorOrDead) l)
       (λ x e h.
-      rw (h, column-lines (c .member) (ls ++ (x ∷ [])), floors-more ls x, floor-from l x e)
+      rw (h, more-lines (c .member) c x (no-condition (c .member) (length ls) (lastFloor ls) x h .1), floors-more ls x, floor-from l x e)
       (sym (append-assoc (ended (memberText (c .member .code))) (floorTexts ls) (ended (floorText x)))))
       (malformed D.FloorOrDead)
 

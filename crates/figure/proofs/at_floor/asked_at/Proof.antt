@@ -1,60 +1,68 @@
 -- `figure::at_floor::asked_at` meets its contract: each way out picks its case of the definition. Assumes nothing.
-use mathlib.Core.Path.{_≡_, _∙_, ap}
-use Prim.Native.Nat.{ℕ, _*_}
+use mathlib.Core.Path.{refl, subst⁻¹}
 use native.Mathlib.Omega.{arith}
+use borrow.Author.Tests.{lt-ltb}
 use Rattle.refusal.specs.Refusal.{numberOf}
-use Rattle.reduction.specs.declared.InfluenceArea.{InfluenceArea}
-use Rattle.member.specs.Member.{tableFactor}
-use Rattle.member.proofs.Tests.{passed, failed}
-use Rattle.figure.specs.Carried.{carried, influenceOf}
+use Rattle.column.specs.Column.{linesOf}
+use Rattle.column.specs.Sound.{Held, linesBefore}
+use Rattle.column.proofs.Reach.{sound}
+use Rattle.figure.specs.Carried.{influenceOf}
 use Rattle.figure.specs.Figure.{figureOf}
-use Rattle.column.specs.Column.{linesOf, columnFrom}
 use Rattle.figure.specs.Asked.{workingOf, askedOf, saidWorking}
-use Rattle.figure.proofs.From.{none-above}
-use borrow.Author.Needs.{needs}
+use Rattle.figure.specs.Rates.{sharesAt, Shared}
+use Rattle.figure.proofs.Carried.{area-total}
+use Rattle.figure.proofs.Order.{reached-ordered}
+use Rattle.figure.proofs.Places.{held-before, order-before}
 use Rattle.figure.proofs.at_floor.asked_at.Statement.{statement}
 use Rattle.figure.proofs.at_floor.asked_at.Tie as tie
 
-returns : tie.Need-returns
-unfolding saidWorking numberOf askedOf
-returns c = rw (none-above (c .before .args .floor) (c .if1 .taken) (c .before .pre .lines))
+lines-at-requires : tie.Need-lines-at-requires
+unfolding linesOf
+lines-at-requires c κs = (sound (c .pre) .held, reached-ordered (c .pre))
 
-totals-at-requires : tie.Need-totals-at-requires
-totals-at-requires c κs = search needs
+returns : tie.Need-returns
+unfolding saidWorking numberOf askedOf linesOf
+returns c = rw (c .before .lines-at .ensures .has, c .if1 .taken)
+
+-- the lines carried are those of a column's places
+places-known : (c : tie.After-lines-at) → Held (c .before .args .held .now) (c .lines-at .result)
+places-known c = held-before (sound (c .before .pre) .held) (c .lines-at .result) (c .lines-at .ensures .few)
+
+floors-before-requires : tie.Need-floors-before-requires
+unfolding linesOf
+floors-before-requires c κs =
+    let at = c .before in
+    (places-known at, order-before (sound (at .before .pre) .held) (reached-ordered (at .before .pre)) (at .lines-at .result) (at .lines-at .ensures .few), omega arith)
+
+area-between-requires : tie.Need-area-between-requires
+area-between-requires c κs = (places-known (c .before .before), omega arith)
+
+shares-at-requires : tie.Need-shares-at-requires
+shares-at-requires c κs =
+    let ok = sound (c .before .before .before .before .pre) in
+    (ok .code, omega (arith, c .area-between .ensures .most, c .before .before .before .lines-at .ensures .few, ok .held .few))
+
+figure-between-requires : tie.Need-figure-between-requires
+unfolding sharesAt
+figure-between-requires c κs = (places-known (c .before .before .before .before .before), omega arith, subst⁻¹ Shared (c .before .shares-at .ensures) refl)
 
 returns-2 : tie.Need-returns-2
-unfolding saidWorking numberOf askedOf
-returns-2 c = rw (failed (c .before .before .totals-at .ensures .has) (c .if2 .taken))
-
-influence-of-requires : tie.Need-influence-of-requires
-influence-of-requires c κs = (c .before .before .before .before .pre .code, c .before .before .totals-at .ensures .most)
-
-sum-carried-requires : tie.Need-sum-carried-requires
-sum-carried-requires c κs = (c .before .before .before .before .before .pre, omega arith)
-
--- X is that of the lines carried
-x-known : (c : tie.After-influence-of)
-    → let s = c .before .before .before .before .before in
-    c .influence-of .result ≡ influenceOf (s .args .member) (carried (s .args .floor) (linesOf (columnFrom (s .args .member) (s .args .count) (s .args .held .now))))
-unfolding influenceOf
-x-known c =
-    let m = c .before .before .before .before .before .args .member in
-    ap {B = InfluenceArea} (λ (x : ℕ). record { 0 = x })
-    (c .influence-of .ensures ∙ ap (λ (a : ℕ). tableFactor (m .code) * a) (c .before .before .before .totals-at .ensures .sum))
-
-returns-3 : tie.Need-returns-3
-unfolding saidWorking askedOf workingOf figureOf linesOf
-returns-3 c =
-    let t = c .before .before .before .before in
-    rw (passed (t .totals-at .ensures .has) (c .before .before .if2 .left), c .sum-carried .ensures .is, t .totals-at .ensures .distinct, x-known (c .before))
+unfolding saidWorking askedOf workingOf figureOf influenceOf linesOf sharesAt
+returns-2 c =
+    let at = c .before .before .before .before .before .before in
+    let end = at .lines-at in
+    let area = area-total (linesBefore (at .before .args .held .now) (end .result)) in
+    rw (end .ensures .has, lt-ltb 0 (end .result) (omega arith), end .ensures .carries (omega arith), area, c .figure-between .ensures .is)
+    (rw (c .before .before .shares-at .ensures, c .before .before .before .area-between .ensures .is, c .before .before .before .before .floors-before .ensures))
 
 pub asked-at-spec : {M : Type 1} → statement M
 asked-at-spec =
     tie.close
     (tie.spec
+    lines-at-requires
     returns
-    totals-at-requires
-    returns-2
-    influence-of-requires
-    sum-carried-requires
-    returns-3)
+    floors-before-requires
+    area-between-requires
+    shares-at-requires
+    figure-between-requires
+    returns-2)

@@ -1,71 +1,67 @@
 -- `figure::descent::next_floor` meets its contract. Assumes nothing.
-use mathlib.Core.Path.{sym, _∙_, ap}
-use Prim.Native.Nat.{ℕ, _*_}
+use mathlib.Core.Path.{ap}
 use native.Mathlib.Omega.{arith}
-use Rattle.reduction.specs.declared.InfluenceArea.{InfluenceArea}
-use Rattle.member.specs.Member.{tableFactor}
-use Rattle.column.specs.declared.Column.{Column}
-use Rattle.figure.specs.Carried.{influenceOf}
-use Rattle.column.specs.Column.{columnFrom}
-use Rattle.column.proofs.Reach.{sound}
-use Rattle.figure.proofs.Before.{each-limits}
-use Rattle.figure.proofs.Walk.{next-above, next-below, next-distinct}
+use Rattle.column.specs.declared.Line.{Line}
+use Rattle.figure.specs.declared.rates.Shares.{Shares}
+use Rattle.figure.specs.Rates.{sharesAt}
+use Rattle.figure.proofs.Places.{room, held-before, sum-join}
+use Rattle.figure.proofs.Shares.{shared-at}
+use Rattle.figure.proofs.Walk.{next-of}
 use borrow.Author.Needs.{needs}
 use Rattle.figure.proofs.descent.next_floor.Statement.{statement}
 use Rattle.figure.proofs.descent.next_floor.Tie as tie
 
--- the column that the parts make
-abbrev col : tie.Start → Column
-col s = columnFrom (s .args .member) (s .args .count) (s .args .held .now)
+line-at-requires : tie.Need-line-at-requires
+line-at-requires c κs = search needs
+
+add-floor-end : tie.Need-add-floor-end
+add-floor-end c = search needs
 
 floor-end-requires : tie.Need-floor-end-requires
-floor-end-requires c κs = let d = c .pre .1 in (sound (c .pre .0), c .pre .2, d .sum, d .sum-most)
+floor-end-requires c κs = search needs
 
-add-floors : tie.Need-add-floors
-add-floors c = search needs
+area-between-requires : tie.Need-area-between-requires
+area-between-requires c κs =
+    let e = c .floor-end .ensures in
+    (held-before (c .before .before .pre .0 .sound .held) _ (e .few), omega (arith, e .low))
+
+add-sum : tie.Need-add-sum
+add-sum c = search needs
+
+add-shares-at : tie.Need-add-shares-at
+add-shares-at c = search needs
 
 shares-at-requires : tie.Need-shares-at-requires
-shares-at-requires c κs =
-    let e = c .before .before .floor-end .ensures in
-    let ok = sound (c .before .before .before .pre .0) in
-    (ok .code, omega (arith, e .sum-most, e .few, ok .few))
+shares-at-requires c κs = search needs
 
 figure-before-requires : tie.Need-figure-before-requires
+unfolding sharesAt
 figure-before-requires c κs =
-    let e = c .before .before .before .floor-end .ensures in
-    let s = c .before .before .before .before in
+    let e = c .before .before .before .before .floor-end .ensures in
+    let d = c .before .before .before .before .before .before .pre .0 in
     let here = c .shares-at .ensures in
-    (sound (s .pre .0), s .pre .1, omega (arith, e .some), e .few, omega (arith, here .floors), here .clamped)
+    (held-before (d .sound .held) _ (e .few), d .figure, omega (arith, e .low), shared-at _ _ (d .shares), shared-at _ _ here, omega (arith, ap (λ (t : Shares). t .floors) here))
 
 returns : tie.Need-returns
-unfolding influenceOf
 returns c =
-    let e = c .before .before .before .before .floor-end .ensures in
-    let end = c .before .before .before .before .floor-end .result in
-    let s = c .before .before .before .before .before in
-    let m = s .args .member in
-    let r = s .pre .0 in
-    let d = s .pre .1 in
-    let here = c .before .shares-at .ensures in (
-      record {
-        few = e .few;
-        floor-most = omega (arith, e .floor, each-limits (col s) (sound r) (s .args .above .lines) (s .pre .2) .floor .1);
-        above = next-above (col s) r (s .args .above) d end e;
-        below = next-below (col s) r (s .args .above) d end e;
-        distinct = here .floors ∙ sym (next-distinct (col s) r (s .args .above) d end e);
-        distinct-most = omega (arith, here .floors, d .distinct-most, e .some);
-        sum = e .sum;
-        sum-most = e .sum-most;
-        influence = ap {B = InfluenceArea} (λ (x : ℕ). record { 0 = x }) (here .influence ∙ ap (λ (a : ℕ). tableFactor (m .code) * a) (e .sum));
-        clamped = here .clamped;
-        figure = c .figure-before .ensures .0;
-        figure-most = c .figure-before .ensures .1;
-      },
-      e .some,
-      e .floor,
-    )
+    let area = c .before .before .before .before in
+    let e = area .before .floor-end .ensures in
+    let s = area .before .before .before in
+    let d = s .pre .0 in
+    let at = ap (λ (l : Line). l .floor) (area .before .before .line-at .ensures) in
+    let sum = sum-join (omega arith) (omega (arith, e .low)) (room (held-before (d .sound .held) _ (e .few))) (d .area) (area .area-between .ensures) in
+    next-of _ d (s .pre .1) at e sum (c .before .shares-at .ensures) (c .figure-before .ensures)
 
 pub next-floor-spec : {M : Type 1} → statement M
 next-floor-spec =
     tie.close
-    (tie.spec floor-end-requires add-floors shares-at-requires figure-before-requires returns)
+    (tie.spec
+    line-at-requires
+    add-floor-end
+    floor-end-requires
+    area-between-requires
+    add-sum
+    add-shares-at
+    shares-at-requires
+    figure-before-requires
+    returns)

@@ -1,15 +1,13 @@
 -- `figure::descent::work_out_all` meets its contract: the table has the numbers of every floor down to the last line carried. Assumes nothing.
-use mathlib.Core.Path.{_≡_, sym, _∙_, ap, subst⁻¹}
+use mathlib.Core.Path.{_≡_, sym, _∙_, ap}
 use Prim.Native.Nat.{_-_}
 use native.Mathlib.Omega.{arith}
 use lib.ListN.{length}
-use Rattle.column.specs.declared.Column.{Column}
-use Rattle.figure.specs.declared.descent.Descent.{Descent}
 use Rattle.column.specs.Column.{columnFrom}
-use Rattle.figure.specs.Descent.{atTop, Descended}
+use Rattle.column.proofs.Reach.{sound}
+use Rattle.figure.specs.Descent.{Descended}
 use Rattle.figure.proofs.Workings.{passedTo, passed-none, passed-length}
-use Rattle.figure.proofs.Walk.{descended-top, all-passed, next-put}
-use borrow.Author.Needs.{needs}
+use Rattle.figure.proofs.Walk.{descended-top, all-passed, lower, next-put}
 use Rattle.figure.proofs.descent.work_out_all.Statement.{statement}
 use Rattle.figure.proofs.descent.work_out_all.Tie as tie
 
@@ -20,58 +18,36 @@ Inv-loop held member count table₀ end here₀ table here =
 abbrev μ-loop : tie.MeasureT-loop
 μ-loop held member count table₀ end here₀ table here = count - here .lines
 
--- the column that the parts make
-abbrev col : tie.Start Inv-loop μ-loop → Column
-col s = columnFrom (s .args .member) (s .args .count) (s .args .held .now)
-
-top-requires : tie.Need-top-requires Inv-loop μ-loop
-top-requires c κs = search needs
+shares-at-requires : tie.Need-shares-at-requires Inv-loop μ-loop
+shares-at-requires c κs = (sound (c .before .pre) .code, omega arith)
 
 loop-holds : tie.Need-loop-holds Inv-loop μ-loop
-unfolding atTop
-loop-holds c =
-    let s = c .before .before in (
-      subst⁻¹ (Descended (s .args .member) (s .args .count) (s .args .held .now)) (c .top .ensures) (descended-top (col s) (s .pre)),
-      sym (ap (λ (d : Descent). passedTo (col s) (d .floor)) (c .top .ensures) ∙ passed-none (col s)),
-    )
+loop-holds c = let s = c .before .before in (descended-top (s .pre) (c .shares-at .result) (c .shares-at .ensures), sym (passed-none _))
 
 next-floor-requires : tie.Need-next-floor-requires Inv-loop μ-loop
-next-floor-requires c κs =
-    let s = c .before .before .before .before .before in
-    (s .pre, c .before .before .loop .inv .0, c .if1 .taken)
+next-floor-requires c κs = (c .before .before .loop .inv .0, c .if1 .taken)
 
 put-working-requires : tie.Need-put-working-requires Inv-loop μ-loop
 put-working-requires c κs =
     let at = c .before in
     let l = at .before .before .before .loop in
-    let s = at .before .before .before .before .before .before in
-    let d = l .inv .0 in
-    let n = at .next-floor .ensures in (
-      ap length (l .inv .1) ∙ passed-length (col s) (l .here .floor) (d .floor-most),
-      omega (arith, n .2, d .below (l .here .lines) (omega arith) (at .before .if1 .taken)),
-      n .0 .floor-most,
-    )
+    let n = at .next-floor .ensures in
+    (ap length (l .inv .1) ∙ passed-length _ (l .here .floor) (l .inv .0 .floor-most), omega (arith, lower (l .inv .0) n), n .descended .floor-most)
 
 loop-less : tie.Need-loop-less Inv-loop μ-loop
-loop-less c = omega (arith, c .before .before .next-floor .ensures .1, c .before .before .next-floor .ensures .0 .few)
+loop-less c = let n = c .before .before .next-floor .ensures in omega (arith, n .some, n .descended .few)
 
 loop-again : tie.Need-loop-again Inv-loop μ-loop
 loop-again c =
     let at = c .before .before in
     let l = at .before .before .before .loop in
-    let s = at .before .before .before .before .before .before in
-    let n = at .next-floor .ensures in (
-      n .0,
-      c .put-working .ensures
-          ∙ next-put (col s) (s .pre) (l .here) (at .next-floor .result) (l .inv .0) (n .0) (at .before .if1 .taken) (n .2) (l .table) (l .inv .1),
-    )
+    let n = at .next-floor .ensures in
+    (n .descended, c .put-working .ensures ∙ next-put (l .inv .0) n (l .inv .1))
 
 returns : tie.Need-returns Inv-loop μ-loop
 returns c =
     let l = c .before .before .loop in
-    let s = c .before .before .before .before .before in
-    let all : l .here .lines ≡ s .args .count = omega (arith, c .if1 .left, l .inv .0 .few) in
-    l .inv .1 ∙ all-passed (col s) (s .pre) (l .here) (l .inv .0) all
+    l .inv .1 ∙ all-passed (l .inv .0) (omega (arith, c .if1 .left, l .inv .0 .few))
 
 pub work-out-all-spec : {M : Type 1} → statement M
 work-out-all-spec =
@@ -79,7 +55,7 @@ work-out-all-spec =
     (tie.spec
     Inv-loop
     μ-loop
-    top-requires
+    shares-at-requires
     loop-holds
     next-floor-requires
     put-working-requires

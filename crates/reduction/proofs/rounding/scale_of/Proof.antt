@@ -12,8 +12,8 @@ enum-told c = search needs
 enum-known-share : tie.Need-enum-known-share
 enum-known-share c = search needs
 
-root-scale-requires : tie.Need-root-scale-requires
-root-scale-requires c κs = omega (arith, fit-root (c .before .before .before .pre) (c .before .share .given .1))
+near-scale-requires : tie.Need-near-scale-requires
+near-scale-requires c κs = omega (arith, fit-root (c .before .before .before .pre) (c .before .share .given .1))
 
 returns : tie.Need-returns
 unfolding estimate
@@ -21,8 +21,8 @@ returns c = search needs
 
 returns-2 : tie.Need-returns-2
 unfolding estimate
-returns-2 c = rw (c .before .before .share .given .1) (c .root-scale .ensures)
+returns-2 c = rw (c .before .before .share .given .1) (c .near-scale .ensures)
 
 pub scale-of-spec : {M : Type 1} → statement M
 scale-of-spec =
-    tie.close (tie.spec enum-told enum-known-share root-scale-requires returns returns-2)
+    tie.close (tie.spec enum-told enum-known-share near-scale-requires returns returns-2)

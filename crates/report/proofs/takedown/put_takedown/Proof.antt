@@ -6,15 +6,15 @@ use lib.ListN.{length, length-append}
 use Rattle.text.proofs.Puts.{put-then, put-left}
 use Rattle.column.specs.Accepted.{lastFloor}
 use Rattle.column.specs.Column.{linesOf}
-use Rattle.figure.specs.Asked.{asked}
-use Rattle.column.proofs.Reach.{sound}
+use Rattle.figure.specs.Lowest.{lowestFigure}
+use Rattle.figure.proofs.Lowest.{asked-lowest, last-most, lowest-most}
+use Rattle.column.proofs.Reach.{sound, sound-lines}
 use Rattle.effects.specs.Check.{newtonsOf}
 use Rattle.combination.specs.Combine.{governing}
 use Rattle.sheet.specs.declared.Sheet.{Sheet}
-use Rattle.report.specs.Report.{floorLines, figureIn, liveOf, effectsOf, governingLines, takedownOf}
+use Rattle.report.specs.Report.{floorLines, liveOf, effectsOf, governingLines, takedownOf}
 use Rattle.report.specs.Table.{figureAt}
-use Rattle.report.proofs.Live.{figure-most}
-use Rattle.report.proofs.Table.{table-lines, last-most, figure-is}
+use Rattle.report.proofs.Table.{table-lines, figure-is}
 use borrow.Author.Needs.{needs}
 use Rattle.report.proofs.takedown.put_takedown.Statement.{statement}
 use Rattle.report.proofs.takedown.put_takedown.Tie as tie
@@ -26,11 +26,13 @@ sheet s = s .args .sheet
 -- the figure at the last floor, and the live effect
 live-figure : (c : tie.After-last-floor)
     → let col = sheet (c .before .before .before .before .before .before .before .before .before .before .before) .column in
-    figureAt (c .before .before .before .work-out .last .1 .1 .1 .0) (c .last-floor .result) ≡ figureIn (asked col (lastFloor (linesOf col)))
+    figureAt (c .before .before .before .work-out .last .1 .1 .1 .0) (c .last-floor .result) ≡ lowestFigure (col .member) (linesOf col)
 live-figure c =
     let s = c .before .before .before .before .before .before .before .before .before .before .before in
+    let col = sheet s .column in
     let ok = sound (s .pre .0 .column) in
-    rw (c .last-floor .ensures, c .before .before .before .work-out .ensures) (figure-is (sheet s .column) ok (lastFloor (linesOf (sheet s .column))) (last-most (ok .lines)))
+    rw (c .last-floor .ensures, c .before .before .before .work-out .ensures)
+    (figure-is col ok (lastFloor (linesOf col)) (last-most (sound-lines ok)) ∙ asked-lowest (col .member) (linesOf col))
 
 live-known : (c : tie.After-live-effect) → c .live-effect .result ≡ liveOf (sheet (c .before .before .before .before .before .before .before .before .before .before .before .before .before) .column)
 unfolding liveOf
@@ -51,8 +53,8 @@ last-floor-requires c κs = search needs
 live-effect-requires : tie.Need-live-effect-requires
 live-effect-requires c κs =
     let s = c .before .before .before .before .before .before .before .before .before .before .before .before in
-    let low = last-most (sound (s .pre .0 .column) .lines) in
-    (rw (c .before .last-floor .ensures) low, rw (live-figure (c .before)) (figure-most (s .pre .0 .column) _))
+    let low = last-most (sound-lines (sound (s .pre .0 .column))) in
+    (rw (c .before .last-floor .ensures) low, rw (live-figure (c .before)) (lowest-most (s .pre .0 .column)))
 
 put-floors-requires : tie.Need-put-floors-requires
 put-floors-requires c κs =

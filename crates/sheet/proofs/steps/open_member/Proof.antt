@@ -4,10 +4,8 @@ use borrow.Author.Tests.{ne-eqb}
 use Rattle.column.specs.Column.{Outcome, openedOf, outcome}
 use Rattle.sheet.specs.Sheet.{ifTaken, valued}
 use mathlib.Core.List.{[]}
-use lib.ListN.{replicate}
 use Rattle.column.specs.declared.Column.{Column}
-use Rattle.column.specs.Line.{numbersOf}
-use Rattle.column.specs.Column.{columnOf, memberOf}
+use Rattle.column.specs.Column.{columnOf, noPlaces, memberOf}
 use Rattle.column.proofs.Reach.{opened-column}
 use borrow.Author.Needs.{needs}
 use Rattle.sheet.proofs.steps.open_member.Statement.{statement}
@@ -29,7 +27,7 @@ unfolding valued ifTaken outcome
 returns c = λ places e. rw (number-is (c .before), ne-eqb _ _ (c .if1 .taken))
 
 returns-2 : tie.Need-returns-2
-unfolding valued ifTaken outcome columnOf numbersOf
+unfolding valued ifTaken outcome columnOf
 returns-2 c = λ places e.
     let n = c .before .before .before .before in
     let s = n .before .before in
@@ -37,7 +35,7 @@ returns-2 c = λ places e.
     let zero : openedOf m .number ≡ 0 = number-is n ∙ c .before .before .before .if1 .left in
     let is : openedOf m .column ≡ columnOf m [] = opened-column m zero in
     let member : n .before .«open» .result .column .member ≡ m = ap (λ (o : Outcome). o .column .member) (n .before .«open» .ensures .0) ∙ ap (λ (d : Column). d .member) is in
-    let held : places ≡ replicate 1024 0 = ap (λ (d : Column). d .held) e in
+    let held : places ≡ noPlaces = ap (λ (d : Column). d .held) e in
     rw (zero, is, member, held)
 
 pub open-member-spec : {M : Type 1} → statement M

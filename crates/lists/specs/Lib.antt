@@ -1,0 +1,2 @@
+-- What definitions say of a list.
+pub mod Lists
