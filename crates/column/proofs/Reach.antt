@@ -186,9 +186,9 @@ unfolding columnOf
 unopened-not-reached r = false≢true (sound r .code)
 
 -- opening a member gives a reached column
-pub reached-opened : (m : Member) → between 1 12 (m .code) ≡ true → Reached (columnOf m [])
-unfolding openedOf after
-reached-opened m e = record { member = m; entries = []; opened = rw e; is = rw e }
+pub reached-opened : (m : Member) → openedOf m .number ≡ 0 → Reached (openedOf m .column)
+unfolding after
+reached-opened m e = record { member = m; entries = []; opened = e; is = refl }
 
 after-more : (c : Column) (es : List Line) (l : Line) → after c (es ++ (l ∷ [])) ≡ enteredOf (after c es) l .column
 unfolding after

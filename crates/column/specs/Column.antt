@@ -6,14 +6,12 @@ use mathlib.Core.List.{List, [], _∷_, _++_, map}
 use Prim.Native.Nat.{ℕ, _-_}
 use lib.Dec.{eqb}
 use lib.ListN.{length, take, replicate}
-use Rattle.refusal.specs.Refusal.{numberOf}
 use Rattle.member.specs.Numbers.{between}
 use Rattle.column.specs.declared.Line.{Line}
 use Rattle.column.specs.declared.Member.{Member}
 use Rattle.column.specs.declared.Column.{Column}
-use Rattle.column.specs.declared.Verdict.{Verdict}
-use Rattle.column.specs.declared.Verdict.the-variants.{Accepted, Refused}
-use Rattle.column.specs.declared.Changed.{Changed}
+use Rattle.column.specs.declared.Outcome.{Outcome}
+use Rattle.column.specs.declared.Opened.{Opened}
 use Rattle.column.specs.declared.Joined.{Joined}
 use Rattle.column.specs.Line.{mostLines, packed, unpacked}
 use Rattle.column.specs.Accepted.{entryNumber}
@@ -40,17 +38,13 @@ columnFrom m n places = record { member = m; count = n; held = places }
 abbrev pub memberOf : ℕ → Member
 memberOf code = record { code = code }
 
--- 01, Numbers by the place of checking: the number of the first condition that holds, 0 where none does, and the column then
-pub record Outcome : Type 0 where
-  pub number : ℕ
-  pub column : Column
-
 -- no part of the paper has it: what stands in the column's place where opening is refused; it is not reached
 -- (`unopened-not-reached`), so no call takes it
 abbrev pub unopened : Column
 unopened = columnOf (memberOf 0) []
 
--- 01, Numbers by the place of checking: opening a member; 1 where the code is not 1 to 12
+-- 01, Numbers by the place of checking: opening a member; 1 where the code is not 1 to 12. An outcome is the number of the first
+-- condition that holds, 0 where none does, and the column then
 unfoldable pub openedOf : Member → Outcome
 openedOf m =
     cond (between 1 12 (m .code))
@@ -75,15 +69,10 @@ pub record Reached (c : Column) : Type 0 where
   pub opened : openedOf member .number ≡ 0
   pub is : c ≡ after (openedOf member .column) entries
 
--- 01, Where each language form belongs: the number and the values of each case of an answer
-unfoldable pub verdictNumber : Verdict → ℕ
-verdictNumber Accepted = 0
-verdictNumber (Refused r) = numberOf r
+-- no part of the paper has it: the outcome of opening where a caller has places of its own, and that of entering in place, which
+-- leaves the column that the member, the count and the places make
+unfoldable pub openedOutcome : Opened → Outcome
+openedOutcome o = record { number = o .number; column = columnOf (o .member) [] }
 
--- 01, Where each language form belongs: so of what opening and entering give
-unfoldable pub outcome : Changed → Outcome
-outcome c = record { number = verdictNumber (c .verdict); column = c .column }
-
--- 01, Where each language form belongs: so of entering in place, which leaves the column that the member, the count and the places make
 unfoldable pub joinedOutcome : Member → Joined → List ℕ → Outcome
-joinedOutcome m j places = record { number = verdictNumber (j .verdict); column = columnFrom m (j .count) places }
+joinedOutcome m j places = record { number = j .number; column = columnFrom m (j .count) places }

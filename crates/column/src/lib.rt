@@ -1,10 +1,7 @@
 // A member, its lines and the column that holds them: opening and entering.
 ghost use mathlib.Core.Path.{_≡_};
-ghost use mathlib.Core.List.{[]};
-ghost use Prim.Native.Nat.{_+_};
-ghost use Rattle.column.specs.Accepted.{lastFloor};
 ghost use Rattle.column.specs.Line.{unpacked, keyOf};
-ghost use Rattle.column.specs.Column.{linesOf, columnOf, columnFrom, memberOf, openedOf, enteredOf, Reached, verdictNumber, outcome, joinedOutcome};
+ghost use Rattle.column.specs.Column.{columnFrom, memberOf, openedOutcome, openedOf, enteredOf, Reached, joinedOutcome};
 use member::TributaryArea;
 use member::limits;
 use refusal::Refusal;
@@ -44,32 +41,25 @@ pub struct Column {
     pub held: Places,
 }
 
-// Whether a member was opened or a line entered, or why not.
-pub enum Verdict {
-    Accepted,
-    Refused(Refusal),
-}
-
-// What opening or entering gives: the verdict, and the column as it now is.
-pub struct Changed {
-    pub verdict: Verdict,
+// What opening a member or entering a line gives: the paper's number, 0 where no condition holds, and the
+// column as it now is.
+#[repr(C)]
+pub struct Outcome {
+    pub number: u64,
     pub column: Column,
 }
 
-// What entering in place gives: the verdict, and how many lines are then held.
-pub struct Joined {
-    pub verdict: Verdict,
-    pub count: u16,
+// What opening a member gives without its places: the paper's number, and the member.
+pub struct Opened {
+    pub number: u64,
+    pub member: Member,
 }
 
-// The paper's number of a verdict, 0 where it is accepted.
-pub fn verdict_number(verdict: Verdict) -> u64
-    ensures { λ r. ⌜ r ≡ verdictNumber verdict ⌝ }
-{
-    match verdict {
-        Verdict::Accepted => 0,
-        Verdict::Refused(refusal) => refusal::number(refusal),
-    }
+// What entering in place gives: the paper's number, and how many lines are then held.
+#[repr(C)]
+pub struct Joined {
+    pub number: u64,
+    pub count: u16,
 }
 
 // The line that a number holds.
@@ -91,52 +81,38 @@ pub fn key_of(number: u64) -> u64
     number / 4294967296 % 262144
 }
 
-// A column without lines.
-fn fresh(code: u8) -> Column
-    ensures { λ r. ⌜ r ≡ columnOf (memberOf code) [] ⌝ }
-{
-    Column {
-        member: Member { code: code },
-        count: 0,
-        held: [0; LINES],
-    }
-}
-
-// Whether a member with this code can be opened.
-pub fn opening(code: u64) -> Verdict
-    ensures { λ r. ⌜ verdictNumber r ≡ openedOf (memberOf code) .number ⌝ }
+// Opens a member with this code, for a caller with places of its own; refused, with a member of code 0,
+// which no call takes, where there is no such code.
+pub fn opening(code: u64) -> Opened
+    ensures { λ r. ⌜ openedOutcome r ≡ openedOf (memberOf code) ⌝ }
 {
     if !limits::is_between(1, 12, code) {
-        return Verdict::Refused(Refusal::UnknownCode);
+        return Opened {
+            number: refusal::number(Refusal::UnknownCode),
+            member: Member { code: 0 },
+        };
     }
-    Verdict::Accepted
+    Opened {
+        number: 0,
+        member: Member { code: code as u8 },
+    }
 }
 
 // The column of a member with this code, without lines; refused where there is no such code, with a
 // column of code 0 in its place, which no call takes.
-pub fn open(code: u64) -> Changed
-    ensures { λ r. ⌜ (outcome r ≡ openedOf (memberOf code)) × (verdictNumber (r .verdict) ≡ 0 → Reached (r .column)) ⌝ }
+pub fn open(code: u64) -> Outcome
+    ensures { λ r. ⌜ (r ≡ openedOf (memberOf code)) × (r .number ≡ 0 → Reached (r .column)) ⌝ }
 {
-    let verdict = opening(code);
-    match verdict {
-        Verdict::Accepted => Changed {
-            verdict: verdict,
-            column: fresh(code as u8),
-        },
-        Verdict::Refused(_) => Changed {
-            verdict: verdict,
-            column: fresh(0),
+    let opened = opening(code);
+    let member = opened.member;
+    Outcome {
+        number: opened.number,
+        column: Column {
+            member: member,
+            count: 0,
+            held: [0; LINES],
         },
     }
-}
-
-// The floor of the last accepted line of the column that a member, a count and its places make; 0
-// where there is none.
-pub fn last_floor(held: &Places, member: Member, count: u16) -> u64
-    requires { ⌜ Reached (columnFrom member count (now held)) ⌝ }
-    ensures { λ r. ⌜ r ≡ lastFloor (linesOf (columnFrom member count (now (held .entry)))) ⌝ }
-{
-    places::last_floor_of(held, count)
 }
 
 // Enters a line in place: on the column that a member, a count and its places make, which gets one line
@@ -147,36 +123,33 @@ pub fn enter_in(held: &mut Places, member: Member, count: u16, line: Line) -> Jo
     ensures { λ r. ⌜ Reached (columnFrom member (r .count) (now (held .exit))) ⌝ }
 {
     let last = places::last_floor_of(held, count);
-    let verdict = conditions::verdict_of(member, count as u64, last, line);
-    match verdict {
-        Verdict::Accepted => {
-            let at = count as usize;
-            held[at] = places::number_of(line);
-            Joined {
-                verdict: verdict,
-                count: count + 1,
-            }
-        }
-        Verdict::Refused(_) => Joined {
-            verdict: verdict,
+    let number = conditions::first_condition(member, count as u64, last, line);
+    if number != 0 {
+        return Joined {
+            number: number,
             count: count,
-        },
+        };
+    }
+    let at = count as usize;
+    held[at] = places::number_of(line);
+    Joined {
+        number: 0,
+        count: count + 1,
     }
 }
 
 // The column with one line more; refused, with the column as it was, where a condition for entering
 // a line holds.
-pub fn enter(column: Column, line: Line) -> Changed
+pub fn enter(column: Column, line: Line) -> Outcome
     requires { ⌜ Reached column ⌝ }
-    ensures { λ r. ⌜ (outcome r ≡ enteredOf column line) × Reached (r .column) ⌝ }
+    ensures { λ r. ⌜ (r ≡ enteredOf column line) × Reached (r .column) ⌝ }
 {
     let member = column.member;
     let mut next = column;
     let joined = enter_in(&mut next.held, member, column.count, line);
-    let verdict = joined.verdict;
     next.count = joined.count;
-    Changed {
-        verdict: verdict,
+    Outcome {
+        number: joined.number,
         column: next,
     }
 }

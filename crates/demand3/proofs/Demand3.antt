@@ -1,15 +1,16 @@
 -- Demand 3, for every member, every list of entries and every floor.
 -- Assumes nothing.
-use mathlib.Core.Path.{_≡_, _∙_, ap, subst, subst⁻¹}
+use mathlib.Core.Path.{_≡_, sym, _∙_, ap, subst, subst⁻¹}
 use mathlib.Core.Bool.{true}
 use mathlib.Core.List.{List}
 use Prim.Native.Nat.{ℕ, _≤_}
-use Rattle.refusal.specs.Said.{refused}
+use Rattle.refusal.specs.Said.{Said, refused}
 use Rattle.refusal.proofs.Said.{not-zero}
 use Rattle.lists.specs.Lists.{All}
 use Rattle.column.specs.declared.Line.{Line}
 use Rattle.column.specs.declared.Member.{Member}
 use Rattle.column.specs.declared.Column.{Column}
+use Rattle.figure.specs.declared.Working.{Working}
 use Rattle.figure.specs.Carried.{carried, hasFloor}
 use Rattle.figure.specs.Figure.{figureOf}
 use Rattle.column.specs.Accepted.{accepted}
@@ -61,7 +62,7 @@ module _ (m : Member) (entries : List Line) (f : ℕ) where
   unfolding askedAfter
   asked-refused n h e = rw (← e, not-zero h)
 
-  -- the claim about that answer
-  pub claim-after : Claim m (accepted m entries) f (askedAfter m entries f)
+  -- so an answer that says what the definition says promises both, that and the claim
+  pub promised : {t : Said Working} → t ≡ askedAfter m entries f → (t ≡ askedAfter m entries f) × Claim m (accepted m entries) f t
   unfolding Claim
-  claim-after opened has = subst (Answered m (accepted m entries) f) (asked-opened opened) (demand3 m entries f opened has)
+  promised e = (e, λ opened has. subst (Answered m (accepted m entries) f) (asked-opened opened ∙ sym e) (demand3 m entries f opened has))

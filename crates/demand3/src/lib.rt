@@ -11,7 +11,6 @@ ghost use Rattle.demand3.specs.Entries.{askedAfter};
 ghost use Rattle.demand3.specs.Demand3.{Claim};
 use column::Column;
 use column::Line;
-use column::Verdict;
 use figure::Asked;
 use member::TributaryArea;
 
@@ -48,12 +47,9 @@ pub fn figure_after(code: u64, entries: &[u64], floor: u64) -> Asked
     ensures { λ r. ⌜ (saidWorking r ≡ askedAfter (memberOf code) (entriesOf (now (entries .entry))) floor) × Claim (memberOf code) (accepted (memberOf code) (entriesOf (now (entries .entry)))) floor (saidWorking r) ⌝ }
 {
     let opened = column::open(code);
-    let verdict = opened.verdict;
-    match verdict {
-        Verdict::Accepted => {
-            let first = opened.column;
-            figure::ask(entered_all(first, entries), floor)
-        }
-        Verdict::Refused(refusal) => Asked::Refused(refusal),
+    if opened.number != 0 {
+        return Asked::Refused(opened.number);
     }
+    let first = opened.column;
+    figure::ask(entered_all(first, entries), floor)
 }

@@ -8,8 +8,6 @@ use lib.Ieee.{Float, fin}
 use Rattle.refusal.specs.Said.{Said, gives, refused}
 use Rattle.refusal.specs.Told as told
 use Rattle.figure.specs.declared.Working.{Working}
-use Rattle.column.specs.declared.Member.{Member}
-use Rattle.column.specs.Column.{Outcome, columnFrom}
 use Rattle.effects.specs.declared.LoadEffect.{LoadEffect}
 use Rattle.combination.specs.declared.GoverningRow.{GoverningRow}
 use Rattle.combination.specs.declared.Governing.{Governing}
@@ -17,19 +15,9 @@ use Rattle.effects.specs.declared.Newtons.{Newtons}
 use Rattle.effects.specs.Check.{placeOf, newtonsOf}
 use Rattle.exports.specs.declared.checks.BungeroChecked.{BungeroChecked}
 use Rattle.exports.specs.declared.combinations.BungeroCombined.{BungeroCombined}
-use Rattle.exports.specs.declared.columns.BungeroOpened.{BungeroOpened}
-use Rattle.exports.specs.declared.columns.BungeroEntered.{BungeroEntered}
 use Rattle.exports.specs.declared.columns.BungeroFigure.{BungeroFigure}
 use Rattle.exports.specs.declared.listed.BungeroListed.{BungeroListed}
 use Rattle.exports.specs.declared.reductions.BungeroReduced.{BungeroReduced}
-
--- 01, Numbers by the place of checking: the number, 0 where no condition holds, and the column
-abbrev pub outcomeOf : BungeroOpened → Outcome
-outcomeOf r = record { number = r .number; column = r .column }
-
--- 01, Numbers by the place of checking: the same where a line is entered in place: the column of the member with so many lines, in the lent places
-abbrev pub enteredIn : Member → BungeroEntered → List ℕ → Outcome
-enteredIn m r places = record { number = r .number; column = columnFrom m (r .count) places }
 
 -- 01, Numbers by the place of checking: n, X and the figure with the number 0, or the number of the refusal with zeros
 unfoldable pub shownOf : Said Working → BungeroFigure

@@ -1,29 +1,16 @@
 // Opening, entering and asking for programs in C and Rust; a column is lent in its parts, and changed in place.
 ghost use mathlib.Core.Path.{_≡_};
 ghost use Rattle.column.specs.Line.{line};
-ghost use Rattle.column.specs.Column.{columnFrom, memberOf, openedOf, enteredOf, Reached};
+ghost use Rattle.column.specs.Column.{columnFrom, memberOf, openedOf, enteredOf, Reached, joinedOutcome};
 ghost use Rattle.figure.specs.Asked.{asked};
-ghost use Rattle.exports.specs.Exported.{outcomeOf, enteredIn, shownOf};
-use column::Column;
+ghost use Rattle.exports.specs.Exported.{shownOf};
+use column::Joined;
 use column::Line;
 use column::Member;
+use column::Outcome;
 use column::Places;
 use figure::Asked;
 use member::TributaryArea;
-
-// What opening gives: the paper's number, 0 where none holds, and the column.
-#[repr(C)]
-pub struct BungeroOpened {
-    pub number: u64,
-    pub column: Column,
-}
-
-// What entering gives: the paper's number, 0 where none holds, and how many lines are then held.
-#[repr(C)]
-pub struct BungeroEntered {
-    pub number: u64,
-    pub count: u16,
-}
 
 // What asking gives: the paper's number, 0 where none holds, and n, X and the figure, which are 0
 // where asking is refused.
@@ -37,16 +24,10 @@ pub struct BungeroFigure {
 
 // Opens a member.
 #[no_mangle]
-pub extern "C" fn bungero_open(code: u64) -> BungeroOpened
-    ensures { λ r. ⌜ (outcomeOf r ≡ openedOf (memberOf code)) × (r .number ≡ 0 → Reached (r .column)) ⌝ }
+pub extern "C" fn bungero_open(code: u64) -> Outcome
+    ensures { λ r. ⌜ (r ≡ openedOf (memberOf code)) × (r .number ≡ 0 → Reached (r .column)) ⌝ }
 {
-    let opened = column::open(code);
-    let verdict = opened.verdict;
-    let column = opened.column;
-    BungeroOpened {
-        number: column::verdict_number(verdict),
-        column: column,
-    }
+    column::open(code)
 }
 
 // Enters a line on the column of this member with so many lines, whose numbers are in the lent places.
@@ -59,9 +40,9 @@ pub extern "C" fn bungero_enter(
     class: u64,
     load: u64,
     area: u64,
-) -> BungeroEntered
+) -> Joined
     requires { ⌜ Reached (columnFrom member count (now held)) ⌝ }
-    ensures { λ r. ⌜ enteredIn member r (now (held .exit)) ≡ enteredOf (columnFrom member count (now (held .entry))) (line floor class load area) ⌝ }
+    ensures { λ r. ⌜ joinedOutcome member r (now (held .exit)) ≡ enteredOf (columnFrom member count (now (held .entry))) (line floor class load area) ⌝ }
     ensures { λ r. ⌜ Reached (columnFrom member (r .count) (now (held .exit))) ⌝ }
 {
     let line = Line {
@@ -70,12 +51,7 @@ pub extern "C" fn bungero_enter(
         load: load,
         area: TributaryArea(area),
     };
-    let joined = column::enter_in(held, member, count, line);
-    let verdict = joined.verdict;
-    BungeroEntered {
-        number: column::verdict_number(verdict),
-        count: joined.count,
-    }
+    column::enter_in(held, member, count, line)
 }
 
 // Asks at a floor of such a column.
@@ -97,8 +73,8 @@ pub extern "C" fn bungero_ask(
             influence: working.influence.0,
             figure: working.figure,
         },
-        Asked::Refused(refusal) => BungeroFigure {
-            number: refusal::number(refusal),
+        Asked::Refused(number) => BungeroFigure {
+            number: number,
             floors: 0,
             influence: 0,
             figure: 0,

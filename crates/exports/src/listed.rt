@@ -29,8 +29,8 @@ fn listed_out(listed: Listed) -> BungeroListed
             influence: working.influence.0,
             figure: working.figure,
         },
-        Listed::Refused { refusal, place } => BungeroListed {
-            number: refusal::number(refusal),
+        Listed::Refused { number, place } => BungeroListed {
+            number: number,
             place: place,
             floors: 0,
             influence: 0,

@@ -23,12 +23,14 @@ use Rattle.figure.specs.declared.descent.Descent.{Descent}
 use Rattle.figure.specs.Carried.{formulaLines, hasFloor, floorsOf, areaOf, influenceFrom, influenceOf}
 use Rattle.figure.specs.Figure.{figureOf}
 use Rattle.figure.specs.Asked.{workingOf, askedOf, asked}
+use Rattle.figure.specs.Lowest.{lowestFigure}
 use Rattle.figure.specs.Workings.{workingNumbers, workingsOf}
 use Rattle.figure.specs.Totals.{formulaArea, SumOf, At, DownTo, Below, NotAbove}
 use Rattle.figure.specs.Rates.{sharesAt, figureBy}
 use Rattle.figure.specs.Descent.{FloorEndOf, threePut, Descended, NextOf}
 use Rattle.figure.proofs.Carried.{Other, has-none, has-in, floors-run, carried-front, area-total}
 use Rattle.figure.proofs.Order.{reached-ordered}
+use Rattle.figure.proofs.Lowest.{lowest-all}
 use Rattle.figure.proofs.Places.{room, held-before, held-at, line-between, above-at, after-at, sum-none}
 use Rattle.figure.proofs.Workings.{passedTo, passed-over, passed-put, passed-all}
 
@@ -87,6 +89,11 @@ module _ {m : Member} {count : ℕ} {places : List ℕ} where
     all-passed e =
         passed-over c (64 - d .floor) (d .floor) 64 (omega (arith, h .floor-most)) (omega arith) (λ f low high. none-at f low (λ k. absurd (omega arith)))
         ∙ passed-all c
+
+    -- and the figure is that of all lines
+    pub all-summed : Reached c → d .lines ≡ count → d .figure ≡ lowestFigure m (linesOf c)
+    unfolding linesOf figureOf sharesAt
+    all-summed r e = rw (h .figure .is, h .shares, e) (sym (lowest-all r))
 
   -- what is carried where the lines of the next floor end
   module _ {d : Descent} (n : Descent) (h : Descended m count places d) (k : d .lines < count) (at : n .floor ≡ lineAt places (d .lines) .floor) (e : FloorEndOf count places (d .lines + 1) (n .floor) (n .lines)) where

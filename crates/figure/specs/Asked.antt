@@ -3,7 +3,6 @@
 use mathlib.Core.Bool.{cond}
 use mathlib.Core.List.{List}
 use Prim.Native.Nat.{ℕ}
-use Rattle.refusal.specs.Refusal.{numberOf}
 use Rattle.refusal.specs.Said.{Said, gives, refused}
 use Rattle.column.specs.declared.Line.{Line}
 use Rattle.column.specs.declared.Member.{Member}
@@ -35,4 +34,4 @@ asked c f = askedOf (c .member) (linesOf c) f
 -- 01, Where each language form belongs: the number and the values of each case of what asking gives
 unfoldable pub saidWorking : Asked → Said Working
 saidWorking (asked-variants.Gives w) = gives w
-saidWorking (asked-variants.Refused r) = refused (numberOf r)
+saidWorking (asked-variants.Refused n) = refused n

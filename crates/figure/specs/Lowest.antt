@@ -2,19 +2,12 @@
 -- Assumes nothing.
 use mathlib.Core.List.{List}
 use Prim.Native.Nat.{ℕ}
-use Rattle.refusal.specs.Said.{Said, gives, refused}
 use Rattle.column.specs.declared.Line.{Line}
 use Rattle.column.specs.declared.Member.{Member}
 use Rattle.column.specs.Accepted.{lastFloor}
-use Rattle.figure.specs.declared.Working.{Working}
 use Rattle.figure.specs.Carried.{carried}
 use Rattle.figure.specs.Figure.{figureOf}
 
 -- 01, The sheet: "the figure at the last floor", that of the last accepted line; 0 without lines, since then none is carried
 unfoldable pub lowestFigure : Member → List Line → ℕ
 lowestFigure m ls = figureOf m (carried (lastFloor ls) ls)
-
--- No part of a paper: the figure that asking gives, 0 where it is refused; at the last floor that is `lowestFigure`
-unfoldable pub figureIn : Said Working → ℕ
-figureIn (gives w) = w .figure
-figureIn (refused n) = 0

@@ -72,7 +72,7 @@ pub fn asked_at(held: &Places, member: Member, count: u16, floor: u64) -> Asked
 {
     let end = lines_at(held, count, floor);
     if end == 0 {
-        return Asked::Refused(Refusal::NoLineAtFloor);
+        return Asked::Refused(refusal::number(Refusal::NoLineAtFloor));
     }
     let floors = floors_before(held, end);
     let area = TributaryArea(sums::area_between(held, 0, end));

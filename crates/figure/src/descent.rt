@@ -3,8 +3,9 @@ ghost use mathlib.Core.Path.{_≡_};
 ghost use Prim.Native.Nat.{_*_, _≤_, _<_};
 ghost use lib.ListN.{length};
 ghost use Rattle.column.specs.Line.{lowestFloor};
-ghost use Rattle.column.specs.Column.{columnFrom, Reached};
+ghost use Rattle.column.specs.Column.{linesOf, columnFrom, Reached};
 ghost use Rattle.column.specs.Sound.{Held};
+ghost use Rattle.figure.specs.Lowest.{lowestFigure};
 ghost use Rattle.figure.specs.Workings.{workingsOf};
 ghost use Rattle.figure.specs.Totals.{SumOf};
 ghost use Rattle.figure.specs.Rates.{Shared, figureBy};
@@ -88,10 +89,12 @@ fn put_working(table: &mut Table, here: Descent)
     table[at + 2] = here.figure;
 }
 
-// Puts the numbers of every floor from 1 to 64; those of a floor without lines stay 0.
-pub fn work_out_all(held: &Places, member: Member, count: u16, table: &mut Table)
+// Puts the numbers of every floor from 1 to 64; those of a floor without lines stay 0. Gives the figure at
+// the lowest floor, where all lines are carried.
+pub fn work_out_all(held: &Places, member: Member, count: u16, table: &mut Table) -> u64
     requires { ⌜ Reached (columnFrom member count (now held)) ⌝ }
     ensures { λ _. ⌜ now (table .exit) ≡ workingsOf (columnFrom member count (now (held .entry))) lowestFloor ⌝ }
+    ensures { λ r. ⌜ r ≡ lowestFigure member (linesOf (columnFrom member count (now (held .entry)))) ⌝ }
 {
     *table = [0; NUMBERS];
     let end = count as usize;
@@ -107,4 +110,5 @@ pub fn work_out_all(held: &Places, member: Member, count: u16, table: &mut Table
         here = next_floor(held, member, end, here);
         put_working(table, here);
     }
+    here.figure
 }

@@ -1,14 +1,14 @@
 // Asking a column at a floor, or working out all floors: how many are carried, the influence area and the figure.
 ghost use mathlib.Core.Path.{_≡_};
 ghost use Rattle.column.specs.Line.{lowestFloor};
-ghost use Rattle.column.specs.Column.{columnFrom, Reached};
+ghost use Rattle.column.specs.Column.{linesOf, columnFrom, Reached};
 ghost use Rattle.figure.specs.Asked.{asked, saidWorking};
+ghost use Rattle.figure.specs.Lowest.{lowestFigure};
 ghost use Rattle.figure.specs.Workings.{workingsOf};
 use column::Column;
 use column::Member;
 use column::Places;
 use reduction::InfluenceArea;
-use refusal::Refusal;
 
 mod any_order;
 mod at_floor;
@@ -31,10 +31,10 @@ pub struct Working {
     pub figure: u64,
 }
 
-// What asking at a floor gives.
+// What asking at a floor gives, or the paper's number of the refusal.
 pub enum Asked {
     Gives(Working),
-    Refused(Refusal),
+    Refused(u64),
 }
 
 // n, X and the figure at a floor, asked in place: of the column that a member, a count and its places
@@ -56,10 +56,12 @@ pub fn ask(column: Column, floor: u64) -> Asked
 }
 
 // n, X and the figure at every floor from 1 to 64, three numbers a floor, of the column that a member, a
-// count and its places make; zeros at a floor that no accepted line has.
-pub fn work_out(held: &Places, member: Member, count: u16, table: &mut Table)
+// count and its places make; zeros at a floor that no accepted line has. Gives the figure at the lowest floor,
+// 0 without lines.
+pub fn work_out(held: &Places, member: Member, count: u16, table: &mut Table) -> u64
     requires { ⌜ Reached (columnFrom member count (now held)) ⌝ }
     ensures { λ _. ⌜ now (table .exit) ≡ workingsOf (columnFrom member count (now (held .entry))) lowestFloor ⌝ }
+    ensures { λ r. ⌜ r ≡ lowestFigure member (linesOf (columnFrom member count (now (held .entry)))) ⌝ }
 {
-    descent::work_out_all(held, member, count, table);
+    descent::work_out_all(held, member, count, table)
 }

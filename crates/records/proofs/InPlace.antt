@@ -13,7 +13,8 @@ use Rattle.column.specs.declared.Line.{Line}
 use Rattle.column.specs.declared.Member.{Member}
 use Rattle.column.specs.declared.Column.{Column}
 use Rattle.column.specs.Accepted.{entryNumber}
-use Rattle.column.specs.Column.{noPlaces, columnOf, Outcome, openedOf, enteredOf, Reached}
+use Rattle.column.specs.declared.Outcome.{Outcome}
+use Rattle.column.specs.Column.{noPlaces, columnOf, openedOf, enteredOf, Reached}
 use Rattle.column.proofs.Columns.{column-lines}
 use Rattle.column.proofs.Reach.{Holdable, holdable-none, holdable-more, entered-refused, opened-code, opened-column, opened-refused, reached-opened}
 use Rattle.figure.specs.declared.Working.{Working}
@@ -82,4 +83,4 @@ pub opens-sits : (m : Member) (d : Entered) → outcomeOf d noPlaces ≡ openedO
 unfolding outcomeOf
 opens-sits m d o z =
     let zero : openedOf m .number ≡ 0 = sym (ap (λ (u : Outcome). u .number) o) ∙ z in
-    subst⁻¹ Reached (ap (λ (u : Outcome). u .column) o ∙ opened-column m zero) (reached-opened m (opened-code m zero))
+    subst⁻¹ Reached (ap (λ (u : Outcome). u .column) o) (reached-opened m zero)

@@ -8,7 +8,8 @@ use lib.Dec.{eqb}
 use Rattle.refusal.specs.Told.{Told, refused}
 use Rattle.column.specs.declared.Line.{Line}
 use Rattle.column.specs.declared.Member.{Member}
-use Rattle.column.specs.Column.{columnFrom, Outcome, enteredOf, Reached, verdictNumber}
+use Rattle.column.specs.declared.Outcome.{Outcome}
+use Rattle.column.specs.Column.{columnFrom, enteredOf, Reached}
 use Rattle.figure.specs.declared.Working.{Working}
 use Rattle.figure.specs.Asked.{asked}
 use Rattle.records.specs.declared.entering.Entered.{Entered}
@@ -16,11 +17,11 @@ use Rattle.records.specs.Listed.{atPlace}
 
 -- what is kept: the number of the first refusal, 0 where there is none, and the column that it and the places make
 unfoldable pub outcomeOf : Entered → List ℕ → Outcome
-outcomeOf e places = record { number = verdictNumber (e .verdict); column = columnFrom (e .member) (e .count) places }
+outcomeOf e places = record { number = e .number; column = columnFrom (e .member) (e .count) places }
 
 -- while nothing is refused the column is reached
 abbrev pub Sits : Entered → List ℕ → Type 0
-Sits e places = verdictNumber (e .verdict) ≡ 0 → Reached (columnFrom (e .member) (e .count) places)
+Sits e places = e .number ≡ 0 → Reached (columnFrom (e .member) (e .count) places)
 
 -- all the lines in order; after a refusal nothing changes
 unfoldable pub enteredAll : Outcome → List Line → Outcome

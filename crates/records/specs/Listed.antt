@@ -6,7 +6,6 @@ use mathlib.Core.List.{List, [], _∷_, _++_}
 use Prim.Native.Nat.{ℕ, _+_}
 use lib.Dec.{eqb}
 use lib.ListN.{length}
-use Rattle.refusal.specs.Refusal.{numberOf}
 use Rattle.refusal.specs.Said as said
 use Rattle.refusal.specs.Told.{Told, gives, refused}
 use Rattle.column.specs.declared.Line.{Line}
@@ -45,7 +44,7 @@ listedOf m lines f =
 -- 01, Where each language form belongs: the number and the values of each case of an answer
 unfoldable pub saidListed : Listed → Told ℕ Working
 saidListed (Gives w) = gives w
-saidListed (Refused r place) = refused (numberOf r) place
+saidListed (Refused n place) = refused n place
 
 -- 01, Reduced load and figure: E ≤ F < E + A holds of a figure F that the call gives, over the lines of the list that are
 -- carried at the floor

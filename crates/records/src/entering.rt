@@ -2,18 +2,17 @@
 ghost use mathlib.Core.Path.{_≡_};
 ghost use mathlib.Core.Bool.{cond};
 ghost use lib.Dec.{eqb};
-ghost use Rattle.column.specs.Column.{noPlaces, memberOf, columnFrom, openedOf, enteredOf, Reached, verdictNumber};
+ghost use Rattle.column.specs.Column.{noPlaces, memberOf, columnFrom, openedOf, enteredOf, Reached};
 ghost use Rattle.records.specs.Entering.{Sits, outcomeOf, enteredAll};
 use column::LINES;
 use column::Line;
 use column::Member;
 use column::Places;
-use column::Verdict;
 
-// A member, the first refusal among the lines so far, and how many lines are then held.
+// A member, the number of the first refusal so far, 0 where there is none, and how many lines are then held.
 pub struct Entered {
     pub member: Member,
-    pub verdict: Verdict,
+    pub number: u64,
     pub count: u16,
 }
 
@@ -28,18 +27,12 @@ pub fn empty() -> Places
 pub fn begun(code: u64) -> Entered
     ensures { λ r. ⌜ outcomeOf r noPlaces ≡ openedOf (memberOf code) ⌝ }
 {
-    let verdict = column::opening(code);
-    match verdict {
-        Verdict::Accepted => Entered {
-            member: Member { code: code as u8 },
-            verdict: verdict,
-            count: 0,
-        },
-        Verdict::Refused(_) => Entered {
-            member: Member { code: 0 },
-            verdict: verdict,
-            count: 0,
-        },
+    let opened = column::opening(code);
+    let member = opened.member;
+    Entered {
+        member: member,
+        number: opened.number,
+        count: 0,
     }
 }
 
@@ -50,23 +43,21 @@ fn with_line(held: &mut Places, entered: Entered, line: Line) -> Entered
 {
     let member = entered.member;
     let joined = column::enter_in(held, member, entered.count, line);
-    let verdict = joined.verdict;
     Entered {
         member: member,
-        verdict: verdict,
+        number: joined.number,
         count: joined.count,
     }
 }
 
 // How many lines are to be entered: all while nothing is refused, and none after a refusal.
 fn end_of(entered: Entered, all: usize) -> usize
-    ensures { λ r. ⌜ r ≡ cond (eqb (verdictNumber (entered .verdict)) 0) all 0 ⌝ }
+    ensures { λ r. ⌜ r ≡ cond (eqb (entered .number) 0) all 0 ⌝ }
 {
-    let verdict = entered.verdict;
-    match verdict {
-        Verdict::Accepted => all,
-        Verdict::Refused(_) => 0,
+    if entered.number == 0 {
+        return all;
     }
+    0
 }
 
 // The lines in order, up to and with the first refused one.

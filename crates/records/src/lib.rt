@@ -7,19 +7,17 @@ ghost use Rattle.records.specs.Listed.{atPlace, listedOf, saidListed, Bo
 use column::Line;
 use column::Member;
 use column::Places;
-use column::Verdict;
 use entering::Entered;
 use figure::Asked;
 use figure::Working;
-use refusal::Refusal;
 
 mod entering;
 
-// What a list gives: what holds at the floor, or the refusal and its place. Lines have the places 1, 2
-// and so on; the place is 0 where the code or the floor is refused.
+// What a list gives: what holds at the floor, or the paper's number of the refusal and its place. Lines have
+// the places 1, 2 and so on; the place is 0 where the code or the floor is refused.
 pub enum Listed {
     Gives(Working),
-    Refused { refusal: Refusal, place: u64 },
+    Refused { number: u64, place: u64 },
 }
 
 // The place of a refusal: 0 where opening was refused, which leaves a member of code 0, else one more
@@ -39,8 +37,8 @@ fn listed_of(asked: Asked) -> Listed
 {
     match asked {
         Asked::Gives(working) => Listed::Gives(working),
-        Asked::Refused(refusal) => Listed::Refused {
-            refusal: refusal,
+        Asked::Refused(number) => Listed::Refused {
+            number: number,
             place: 0,
         },
     }
@@ -52,14 +50,13 @@ fn answer_of(held: &Places, entered: Entered, floor: u64) -> Listed
     ensures { λ r. ⌜ saidListed r ≡ answerOf (outcomeOf entered (now (held .entry))) floor ⌝ }
 {
     let member = entered.member;
-    let verdict = entered.verdict;
-    match verdict {
-        Verdict::Accepted => listed_of(figure::ask_in(held, member, entered.count, floor)),
-        Verdict::Refused(refusal) => Listed::Refused {
-            refusal: refusal,
+    if entered.number != 0 {
+        return Listed::Refused {
+            number: entered.number,
             place: place_of(member, entered.count),
-        },
+        };
     }
+    listed_of(figure::ask_in(held, member, entered.count, floor))
 }
 
 // n, X and the figure at a floor of a member with these lines, none of them refused; else the first

@@ -4,6 +4,7 @@ ghost use mathlib.Core.Bool.{true};
 ghost use Prim.Native.Nat.{_≤_};
 ghost use Rattle.member.specs.Line.{isFormula};
 ghost use Rattle.refusal.specs.Said.{said};
+ghost use Rattle.reduction.specs.declared.InfluenceArea.{InfluenceArea};
 ghost use Rattle.reduction.specs.Share.{otherTwentieths, clampedOf};
 ghost use Rattle.reduction.specs.Reduced.{reducedOf};
 ghost use Rattle.reduction.specs.Estimate.{estimateOf};
@@ -69,11 +70,11 @@ pub fn root_scale(floors: u64, x: InfluenceArea) -> u64
     }
 }
 
-// The reduced load R of a line that the formula is not for, or of one without a load; refused where
-// the class or the load is outside its limits.
-fn other_load(load: u64, class: u64, floors: u64, x: InfluenceArea) -> Answer
+// The reduced load R of a line that the formula is not for, or of one without a load, whatever the influence
+// area; refused where the class or the load is outside its limits.
+fn other_load(load: u64, class: u64, floors: u64) -> Answer
     requires { ⌜ (isFormula load class ≡ true → load ≡ 0) ⌝ }
-    ensures { λ r. ⌜ said r ≡ reducedOf load class floors x ⌝ }
+    ensures { λ r. ⌜ ((x : InfluenceArea) → said r ≡ reducedOf load class floors x) ⌝ }
 {
     if !limits::is_between(1, 3, class) {
         return Answer::Refused(Refusal::UnknownClass);
@@ -96,10 +97,10 @@ pub fn reduced_load_from(
     ensures { λ r. ⌜ said r ≡ reducedOf load class floors x ⌝ }
 {
     if !member::is_formula(load, class) {
-        return other_load(load, class, floors, x);
+        return other_load(load, class, floors);
     }
     if load == 0 {
-        return other_load(load, class, floors, x);
+        return other_load(load, class, floors);
     }
     let share = share::formula_share(floors, x);
     let scale = rounding::scale_from(estimate);

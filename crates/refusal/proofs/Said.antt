@@ -86,6 +86,9 @@ pub by-number : {P : Type 0} (n : ℕ) → (n ≡ 0 → P) → (1 ≤ n → P) �
 by-number zero none some = none refl
 by-number (suc n) none some = some (omega arith)
 
+pub positive : {n : ℕ} → (n ≡ 0 → ⊥) → 1 ≤ n
+positive {n} h = by-number n (λ e. absurd (h e)) (λ k. k)
+
 pub not-zero : {n : ℕ} → 1 ≤ n → eqb n 0 ≡ false
 not-zero {n} h = ne-eqb n 0 (λ q. omega arith)
 

@@ -1,4 +1,4 @@
--- The number of each refusal, what an answer says, and what holds of each element of a list.
+-- The number of each refusal, and what an answer says.
 pub mod Refusal
 pub mod Said
 pub mod Told

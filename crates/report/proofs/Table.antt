@@ -3,7 +3,7 @@
 use mathlib.Core.Path.{_≡_, refl, sym, _∙_, ap}
 use mathlib.Core.Bool.{Bool, true, false, cond}
 use mathlib.Core.List.{List, [], _∷_, _++_}
-use Prim.Native.Nat.{ℕ, zero, suc, _+_, _*_, _-_, _≤_, _<_}
+use Prim.Native.Nat.{ℕ, zero, suc, _+_, _*_, _≤_, _<_}
 use native.Mathlib.Nat.{lt-of-not-le}
 use native.Mathlib.Decide.{decLe}
 use native.Mathlib.Omega.{arith}
@@ -11,21 +11,18 @@ use lib.ListN.{length, getD, List·getD-append}
 use lib.Seq.{getD-append-add}
 use borrow.Author.Tests.{ne-eqb}
 use Rattle.refusal.specs.Said.{Said, gives, refused}
-use Rattle.lists.specs.Lists.{All, none, more, some}
+use Rattle.lists.specs.Lists.{some}
 use Rattle.column.specs.declared.Line.{Line}
 use Rattle.column.specs.declared.Column.{Column}
 use Rattle.figure.specs.declared.Working.{Working}
 use Rattle.figure.specs.Carried.{carried, hasFloor, floorsOf}
 use Rattle.column.specs.Column.{linesOf}
 use Rattle.figure.specs.Asked.{workingOf, askedOf, asked}
-use Rattle.figure.specs.Lowest.{figureIn}
 use Rattle.figure.specs.Workings.{workingNumbers, workingsOf}
-use Rattle.column.proofs.Reach.{sound-lines}
-use Rattle.column.specs.Sound.{InLimits, Sound}
 use Rattle.figure.proofs.Carried.{has-carried, has-some}
 use Rattle.figure.proofs.Workings.{workings-length}
 use Rattle.report.specs.Report.{floorLineOf, floorLines}
-use Rattle.report.specs.Table.{workingFrom, lineOf, workingAfter, tableLines, figureAt}
+use Rattle.report.specs.Table.{workingFrom, lineOf, workingAfter, tableLines}
 
 -- the numbers of a floor stand where its place is
 pub workings-at : (c : Column) (top f j : ℕ) → f < top → j < 3 → getD (workingsOf c top) (3 * f + j) 0 ≡ getD (workingNumbers (asked c (suc f))) j 0
@@ -90,22 +87,3 @@ lines-to c (suc f) h = rw (lines-to c f (omega arith), after-is c f h, line-is c
 -- the lines of the table are those of the floors
 pub table-lines : (c : Column) → tableLines (workingsOf c 64) 64 ≡ floorLines c 64
 table-lines c = lines-to c 64 (omega arith)
-
--- no line within its limits has floor 0
-none-at-zero : {ls : List Line} → All InLimits ls → hasFloor 0 ls ≡ false
-unfolding hasFloor some
-none-at-zero none = refl
-none-at-zero (more {x} q a) = rw (ne-eqb (x .floor) 0 (λ e. omega (arith, q .floor))) (none-at-zero a)
-
-figure-of : (s : Said Working) → numbersWorking s .figure ≡ figureIn s
-unfolding workingNumbers figureIn
-figure-of (gives w) = refl
-figure-of (refused n) = refl
-
--- the figure at a floor of the table is that of asking there
-pub figure-is : (c : Column) → Sound c → (f : ℕ) → f ≤ 64 → figureAt (workingsOf c 64) f ≡ figureIn (asked c f)
-unfolding figureAt figureIn askedOf
-figure-is c ok zero h = rw (none-at-zero (sound-lines ok))
-figure-is c ok (suc f) h =
-    let e : suc f - 1 ≡ f = omega arith in
-    rw (e, ne-eqb (suc f) 0 (λ z. omega arith)) (ap (λ (w : Working). w .figure) (after-is c f h) ∙ figure-of (asked c (suc f)))

@@ -2,7 +2,7 @@
 -- Assumes nothing.
 use mathlib.Core.Bool.{cond}
 use mathlib.Core.List.{List, [], _++_}
-use Prim.Native.Nat.{ℕ, zero, suc, _+_, _*_, _-_}
+use Prim.Native.Nat.{ℕ, zero, suc, _+_, _*_}
 use lib.Dec.{eqb}
 use lib.ListN.{getD}
 use Rattle.figure.specs.declared.Working.{Working}
@@ -24,7 +24,3 @@ workingAfter table f = workingFrom (getD table (3 * f) 0) (getD table (3 * f + 1
 unfoldable pub tableLines : List ℕ → ℕ → List ℕ
 tableLines table zero = []
 tableLines table (suc f) = tableLines table f ++ lineOf (suc f) (workingAfter table f)
-
--- the figure at a floor; 0 at floor 0, where there is none
-unfoldable pub figureAt : List ℕ → ℕ → ℕ
-figureAt table f = cond (eqb f 0) 0 (workingAfter table (f - 1) .figure)

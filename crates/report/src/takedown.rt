@@ -9,7 +9,7 @@ ghost use Rattle.combination.specs.Combine.{governing};
 ghost use Rattle.column.specs.Line.{lowestFloor};
 ghost use Rattle.sheet.specs.Keeps.{EffectsWithin, Keeps};
 ghost use Rattle.report.specs.Report.{effectsWith, governingLines, takedownOf};
-ghost use Rattle.report.specs.Table.{lineOf, workingAfter, tableLines, figureAt};
+ghost use Rattle.report.specs.Table.{lineOf, workingAfter, tableLines};
 use crate::lines;
 use combination::Combined;
 use effects::Effects;
@@ -62,16 +62,12 @@ fn put_floors(out: &mut [u8], table: &Table) -> usize
     at
 }
 
-// The figure at the last floor in whole newtons, rounded up; 0 without lines.
-fn live_effect(table: &Table, last: u64) -> u64
-    requires { ⌜ (last ≤ lowestFloor) × (figureAt (now table) last ≤ 2560000000000) ⌝ }
-    ensures { λ r. ⌜ (r ≡ (figureAt (now (table .entry)) last + 99) / 100) × (r ≤ limit) ⌝ }
+// A figure in whole newtons, rounded up.
+fn live_effect(figure: u64) -> u64
+    requires { ⌜ figure ≤ 2560000000000 ⌝ }
+    ensures { λ r. ⌜ (r ≡ (figure + 99) / 100) × (r ≤ limit) ⌝ }
 {
-    if last == 0 {
-        return 0;
-    }
-    let working = working_after(table, (last - 1) as usize);
-    (working.figure + 99) / 100
+    (figure + 99) / 100
 }
 
 // The seven effects of a sheet as doubles, as combining takes them.
@@ -117,9 +113,8 @@ pub fn put_takedown(out: &mut [u8], sheet: Sheet) -> usize
     let effects = sheet.effects;
     let member = column.member;
     let mut table = [0u64; NUMBERS];
-    figure::work_out(&column.held, member, column.count, &mut table);
-    let last = column::last_floor(&column.held, member, column.count);
-    let live = live_effect(&table, last);
+    let lowest = figure::work_out(&column.held, member, column.count, &mut table);
+    let live = live_effect(lowest);
     let next = put_floors(out, &table);
     put_governing(out, next, effects, live)
 }

@@ -1,6 +1,6 @@
 -- Reading keeps the limits: line by line, and so for a whole sheet.
 -- Assumes nothing.
-use mathlib.Core.Path.{_≡_, refl, subst⁻¹}
+use mathlib.Core.Path.{_≡_, refl}
 use mathlib.Core.Bool.{Bool, true, false, cond, false≢true}
 use mathlib.Core.List.{List, [], _∷_}
 use Prim.Native.Nat.{ℕ, _+_, _≤_}
@@ -10,7 +10,7 @@ use lib.IntN.{ℤ}
 use lib.ListN.{length}
 use borrow.Author.Tests.{leb-true, eqb-true, eqb-false, ne-eqb}
 use Rattle.column.specs.Column.{memberOf, Reached}
-use Rattle.column.proofs.Reach.{opened-code, opened-column, reached-opened, reached-entered}
+use Rattle.column.proofs.Reach.{reached-opened, reached-entered}
 use Rattle.newtons.specs.Effect.{magnitudeOf, limit}
 use Rattle.form.specs.declared.Due.{Due}
 use Rattle.form.specs.declared.Due.the-variants as D
@@ -90,7 +90,7 @@ valued-kept d l (F.Member code) e k =
     if-kept _ d _ k λ z.
     record {
       before = λ q. later q;
-      column = λ _. subst⁻¹ Reached (opened-column (memberOf code) z) (reached-opened (memberOf code) (opened-code (memberOf code) z));
+      column = λ _. reached-opened (memberOf code) z;
       effects = k .effects;
     }
 valued-kept d l (F.Floor x) e k =

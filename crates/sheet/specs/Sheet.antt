@@ -7,7 +7,8 @@ use lib.Dec.{ltb, eqb}
 use lib.IntN.{ℤ, pos}
 use lib.ListN.{length, take, drop}
 use Rattle.column.specs.declared.Column.{Column}
-use Rattle.column.specs.Column.{Outcome, memberOf, unopened, openedOf, enteredOf}
+use Rattle.column.specs.declared.Outcome.{Outcome}
+use Rattle.column.specs.Column.{memberOf, unopened, openedOf, enteredOf}
 use Rattle.newtons.specs.Effect.{within}
 use Rattle.form.specs.declared.Due.{Due}
 use Rattle.form.specs.declared.Due.the-variants as D

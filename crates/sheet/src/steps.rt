@@ -131,17 +131,14 @@ fn effect_number(newtons: i64) -> u64
 fn open_member(progress: Progress, code: u64) -> Step
     ensures { λ r. ⌜ ((places : List ℕ) → columnFrom (progress .member) (progress .count) places ≡ unopened → takenOf r places ≡ valued (draftOf progress places) (Form.Member code)) ⌝ }
 {
-    let opened = column::open(code);
-    let verdict = opened.verdict;
-    let number = column::verdict_number(verdict);
-    if number != 0 {
+    let opened = column::opening(code);
+    if opened.number != 0 {
         return Step {
-            number: number,
+            number: opened.number,
             progress: progress,
         };
     }
-    let column = opened.column;
-    let member = column.member;
+    let member = opened.member;
     let effects = progress.effects;
     Step {
         number: 0,
@@ -161,11 +158,9 @@ fn enter_line(held: &mut Places, progress: Progress, line: Line) -> Step
 {
     let member = progress.member;
     let joined = column::enter_in(held, member, progress.count, line);
-    let verdict = joined.verdict;
-    let number = column::verdict_number(verdict);
-    if number != 0 {
+    if joined.number != 0 {
         return Step {
-            number: number,
+            number: joined.number,
             progress: progress,
         };
     }

@@ -4,7 +4,6 @@ ghost use Rattle.column.specs.Column.{Reached};
 use crate::print;
 use column::Column;
 use column::Line;
-use column::Verdict;
 use figure::Asked;
 use member::TributaryArea;
 
@@ -38,18 +37,13 @@ pub fn open(state: State, code: u64) -> State
     ensures { λ r. ⌜ Reached (r .column) ⌝ }
 {
     let opened = column::open(code);
-    let verdict = opened.verdict;
-    print::print_verdict(verdict);
-    match verdict {
-        Verdict::Accepted => {
-            let next = opened.column;
-            state_of(next, code)
-        }
-        Verdict::Refused(_) => {
-            let kept = state.column;
-            state_of(kept, code)
-        }
+    print::print_number(opened.number);
+    if opened.number != 0 {
+        let kept = state.column;
+        return state_of(kept, code);
     }
+    let next = opened.column;
+    state_of(next, code)
 }
 
 // Enters a line, and keeps its numbers, accepted or not.
@@ -63,11 +57,10 @@ pub fn enter(state: State, floor: u64, class: u64, load: u64, area: u64) -> Stat
         load: load,
         area: TributaryArea(area),
     };
-    let changed = column::enter(state.column, line);
-    let verdict = changed.verdict;
-    print::print_verdict(verdict);
+    let entered = column::enter(state.column, line);
+    print::print_number(entered.number);
     let mut next = state;
-    let column = changed.column;
+    let column = entered.column;
     next.column = column;
     let at = state.count;
     if at <= ROOM - 4 {

@@ -1,9 +1,7 @@
 // Prints answers to standard output, a line each.
-use column::Verdict;
 use figure::Asked;
 use libc::STDOUT_FILENO;
 use refusal::Answer;
-use refusal::Refusal;
 
 // Prints a name and a number.
 pub fn print(name: &[u8], number: u64) {
@@ -22,22 +20,22 @@ pub fn unread() {
 }
 
 // Prints the number of a refusal.
-fn print_refusal(refusal: Refusal) {
-    print(b"refused=", refusal::number(refusal));
+fn print_refused(number: u64) {
+    print(b"refused=", number);
 }
 
 // Prints what a call gave under its name, or the number of its refusal, and ends the line.
 pub fn print_answer(name: &[u8], answer: Answer) {
     match answer {
         Answer::Gives(n) => print(name, n),
-        Answer::Refused(refusal) => print_refusal(refusal),
+        Answer::Refused(refusal) => print_refused(refusal::number(refusal)),
     }
     end_line();
 }
 
-// Prints the number of a verdict, 0 where it is accepted, and ends the line.
-pub fn print_verdict(verdict: Verdict) {
-    print(b"number=", column::verdict_number(verdict));
+// Prints the number of opening or entering, 0 where it is not refused, and ends the line.
+pub fn print_number(number: u64) {
+    print(b"number=", number);
     end_line();
 }
 
@@ -49,7 +47,7 @@ pub fn print_asked(asked: Asked) {
             print(b" influence=", working.influence.0);
             print(b" figure=", working.figure);
         }
-        Asked::Refused(refusal) => print_refusal(refusal),
+        Asked::Refused(number) => print_refused(number),
     }
     end_line();
 }

@@ -1,5 +1,5 @@
 -- `column::enter` meets its contract. Assumes nothing.
-use Rattle.column.specs.Column.{outcome, joinedOutcome}
+use Rattle.column.specs.Column.{joinedOutcome}
 use borrow.Author.Needs.{needs}
 use Rattle.column.proofs.enter.Statement.{statement}
 use Rattle.column.proofs.enter.Tie as tie
@@ -8,7 +8,7 @@ enter-in-requires : tie.Need-enter-in-requires
 enter-in-requires c κs = search needs
 
 returns : tie.Need-returns
-unfolding outcome joinedOutcome
+unfolding joinedOutcome
 returns c = (c .enter-in .ensures .0, c .enter-in .ensures .1)
 
 pub enter-spec : {M : Type 1} → statement M

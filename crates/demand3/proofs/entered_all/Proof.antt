@@ -4,7 +4,8 @@ use Prim.Native.Nat.{_+_, _-_, _≤_}
 use native.Mathlib.Omega.{arith}
 use lib.ListN.{length, drop}
 use Rattle.column.specs.declared.Column.{Column}
-use Rattle.column.specs.Column.{Outcome, after, Reached, outcome}
+use Rattle.column.specs.declared.Outcome.{Outcome}
+use Rattle.column.specs.Column.{after, Reached}
 use Rattle.column.specs.Line.{entriesOf}
 use Rattle.column.proofs.Entries.{entries-end}
 use Rattle.demand3.proofs.entered_all.Statement.{statement}
@@ -36,7 +37,7 @@ loop-less : tie.Need-loop-less Inv-loop μ-loop
 loop-less c = omega arith
 
 loop-again : tie.Need-loop-again Inv-loop μ-loop
-unfolding after outcome
+unfolding after
 loop-again c =
     let now = c .before .before .before .before in
     let rest = entriesOf (drop (now .loop .at + 4) (now .before .before .args .entries .now)) in (

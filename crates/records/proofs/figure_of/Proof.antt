@@ -44,7 +44,8 @@ use denote.Triple.Spec.{Meets, tripleOf}
 use denote.Triple.Table.{entered, cited}
 use denote.Triple.Walked.{says, Stays, stay-dropped, walkOf, goes-dropped, Walks, ends-at, walked, walk-meets}
 use Rattle.column.specs.declared.Line.{Line}
-use Rattle.column.specs.Column.{noPlaces, memberOf, Outcome, openedOf}
+use Rattle.column.specs.declared.Outcome.{Outcome}
+use Rattle.column.specs.Column.{noPlaces, memberOf, openedOf}
 use Rattle.column.proofs.Line as L
 use Rattle.records.specs.declared.Listed.{Listed}
 use Rattle.records.specs.declared.entering.Entered.{Entered}

@@ -36,14 +36,14 @@ is-between-requires c κs = search needs
 
 returns : tie.Need-returns
 unfolding said numberOf reducedOf
-returns c = rw (failed (c .before .is-between .ensures) (c .if1 .taken))
+returns c = λ x. rw (failed (c .before .is-between .ensures) (c .if1 .taken))
 
 is-between-requires-2 : tie.Need-is-between-requires-2
 is-between-requires-2 c κs = search needs
 
 returns-2 : tie.Need-returns-2
 unfolding said numberOf reducedOf
-returns-2 c = rw (class-known (c .before .before), failed (c .before .is-between2 .ensures) (c .if2 .taken))
+returns-2 c = λ x. rw (class-known (c .before .before), failed (c .before .is-between2 .ensures) (c .if2 .taken))
 
 other-twentieths-requires : tie.Need-other-twentieths-requires
 other-twentieths-requires c κs = search needs
@@ -55,10 +55,10 @@ twentieths-of-requires c κs =
 
 returns-3 : tie.Need-returns-3
 unfolding said reducedOf
-returns-3 c =
+returns-3 c = λ x.
     let e = c .before .before in
     let at = e .before .before .before .before .args in
-    rw (class-known (e .before .before), load-known e, c .twentieths-of .ensures, c .before .other-twentieths .ensures, share-other (at .load) (at .class) (at .floors) (at .x) (not-formula e))
+    rw (class-known (e .before .before), load-known e, c .twentieths-of .ensures, c .before .other-twentieths .ensures, share-other (at .load) (at .class) (at .floors) x (not-formula e))
 
 pub other-load-spec : {M : Type 1} → statement M
 other-load-spec =

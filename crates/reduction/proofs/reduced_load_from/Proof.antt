@@ -47,13 +47,13 @@ other-load-requires : tie.Need-other-load-requires
 other-load-requires c κs = λ h. absurd (false≢true (sym (failed (c .before .is-formula .ensures) (c .if1 .taken)) ∙ h))
 
 returns : tie.Need-returns
-returns c = search needs
+returns c = c .other-load .ensures (c .before .before .before .args .x)
 
 other-load-requires-2 : tie.Need-other-load-requires-2
 other-load-requires-2 c κs = λ h. c .if2 .taken
 
 returns-2 : tie.Need-returns-2
-returns-2 c = search needs
+returns-2 c = c .other-load2 .ensures (c .before .before .before .before .args .x)
 
 formula-share-requires : tie.Need-formula-share-requires
 formula-share-requires c κs = search needs

@@ -3,7 +3,8 @@
 use mathlib.Core.Path.{ap}
 use Prim.Native.Nat.{_-_}
 use lib.ListN.{length}
-use Rattle.column.specs.Column.{Outcome, openedOf, Reached, outcome}
+use Rattle.column.specs.declared.Outcome.{Outcome}
+use Rattle.column.specs.Column.{openedOf, Reached}
 use borrow.Author.Needs.{needs}
 use Rattle.trial.proofs.answer_all.Statement.{statement}
 use Rattle.trial.proofs.answer_all.Tie as tie
@@ -18,7 +19,7 @@ open-requires : tie.Need-open-requires Inv-loop μ-loop
 open-requires c κs = search needs
 
 state-of-requires : tie.Need-state-of-requires Inv-loop μ-loop
-unfolding outcome openedOf
+unfolding openedOf
 state-of-requires c κs =
     let first = c .before .«open» .ensures in
     first .1 (ap (λ (o : Outcome). o .number) (first .0))

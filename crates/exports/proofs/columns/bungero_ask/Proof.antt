@@ -1,7 +1,5 @@
 -- `exports::columns::bungero_ask` meets its contract. Assumes nothing.
 use mathlib.Core.Path.{sym, _∙_, ap}
-use Prim.Native.Nat.{ℕ}
-use Rattle.refusal.specs.Said.{refused}
 use Rattle.figure.specs.declared.Asked.{Asked}
 use Rattle.figure.specs.Asked.{saidWorking}
 use Rattle.exports.specs.Exported.{shownOf}
@@ -18,20 +16,14 @@ enum-known-asked c = search needs
 enum-known-asked-2 : tie.Need-enum-known-asked-2
 enum-known-asked-2 c = search needs
 
-number-requires : tie.Need-number-requires
-number-requires c κs = search needs
-
 returns : tie.Need-returns
 unfolding shownOf saidWorking
 returns c = ap (λ (a : Asked). shownOf (saidWorking a)) (sym (c .before .asked .given .1)) ∙ ap shownOf (c .before .before .before .ask-in .ensures)
 
 returns-2 : tie.Need-returns-2
 unfolding shownOf saidWorking
-returns-2 c =
-    ap (λ (n : ℕ). shownOf (refused n)) (c .number .ensures)
-    ∙ (ap (λ (a : Asked). shownOf (saidWorking a)) (sym (c .before .before .asked2 .given .1)) ∙ ap shownOf (c .before .before .before .before .ask-in .ensures))
+returns-2 c = ap (λ (a : Asked). shownOf (saidWorking a)) (sym (c .before .asked2 .given .1)) ∙ ap shownOf (c .before .before .before .ask-in .ensures)
 
 pub bungero-ask-spec : {M : Type 1} → statement M
 bungero-ask-spec =
-    tie.close
-    (tie.spec ask-in-requires enum-known-asked enum-known-asked-2 number-requires returns returns-2)
+    tie.close (tie.spec ask-in-requires enum-known-asked enum-known-asked-2 returns returns-2)

@@ -13,19 +13,13 @@ enum-known-listed c = search needs
 enum-known-listed-2 : tie.Need-enum-known-listed-2
 enum-known-listed-2 c = search needs
 
-number-requires : tie.Need-number-requires
-number-requires c κs = search needs
-
 returns : tie.Need-returns
 unfolding shownListed saidListed
 returns c = ap (λ (l : Listed). shownListed (saidListed l)) (sym (c .before .listed .given .1))
 
 returns-2 : tie.Need-returns-2
 unfolding shownListed saidListed
-returns-2 c =
-    rw (c .number .ensures)
-    (ap (λ (l : Listed). shownListed (saidListed l)) (sym (c .before .before .listed2 .given .1)))
+returns-2 c = ap (λ (l : Listed). shownListed (saidListed l)) (sym (c .before .listed2 .given .1))
 
 pub listed-out-spec : {M : Type 1} → statement M
-listed-out-spec =
-    tie.close (tie.spec enum-known-listed enum-known-listed-2 number-requires returns returns-2)
+listed-out-spec = tie.close (tie.spec enum-known-listed enum-known-listed-2 returns returns-2)

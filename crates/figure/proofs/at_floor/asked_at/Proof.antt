@@ -13,6 +13,7 @@ use Rattle.figure.specs.Rates.{sharesAt, Shared}
 use Rattle.figure.proofs.Carried.{area-total}
 use Rattle.figure.proofs.Order.{reached-ordered}
 use Rattle.figure.proofs.Places.{held-before, order-before}
+use borrow.Author.Needs.{needs}
 use Rattle.figure.proofs.at_floor.asked_at.Statement.{statement}
 use Rattle.figure.proofs.at_floor.asked_at.Tie as tie
 
@@ -20,9 +21,12 @@ lines-at-requires : tie.Need-lines-at-requires
 unfolding linesOf
 lines-at-requires c κs = (sound (c .pre) .held, reached-ordered (c .pre))
 
+number-requires : tie.Need-number-requires
+number-requires c κs = search needs
+
 returns : tie.Need-returns
 unfolding saidWorking numberOf askedOf linesOf
-returns c = rw (c .before .lines-at .ensures .has, c .if1 .taken)
+returns c = rw (c .before .before .lines-at .ensures .has, c .before .if1 .taken, c .number .ensures)
 
 -- the lines carried are those of a column's places
 places-known : (c : tie.After-lines-at) → Held (c .before .args .held .now) (c .lines-at .result)
@@ -60,6 +64,7 @@ asked-at-spec =
     tie.close
     (tie.spec
     lines-at-requires
+    number-requires
     returns
     floors-before-requires
     area-between-requires

@@ -7,7 +7,7 @@ use Rattle.column.specs.Column.{columnFrom}
 use Rattle.column.proofs.Reach.{sound}
 use Rattle.figure.specs.Descent.{Descended}
 use Rattle.figure.proofs.Workings.{passedTo, passed-none, passed-length}
-use Rattle.figure.proofs.Walk.{descended-top, all-passed, lower, next-put}
+use Rattle.figure.proofs.Walk.{descended-top, all-passed, all-summed, lower, next-put}
 use Rattle.figure.proofs.descent.work_out_all.Statement.{statement}
 use Rattle.figure.proofs.descent.work_out_all.Tie as tie
 
@@ -47,7 +47,8 @@ loop-again c =
 returns : tie.Need-returns Inv-loop μ-loop
 returns c =
     let l = c .before .before .loop in
-    l .inv .1 ∙ all-passed (l .inv .0) (omega (arith, c .if1 .left, l .inv .0 .few))
+    let all : l .here .lines ≡ c .before .before .before .before .before .args .count = omega (arith, c .if1 .left, l .inv .0 .few) in
+    (l .inv .1 ∙ all-passed (l .inv .0) all, all-summed (l .inv .0) (c .before .before .before .before .before .pre) all)
 
 pub work-out-all-spec : {M : Type 1} → statement M
 work-out-all-spec =

@@ -61,7 +61,7 @@ use Rattle.column.specs.Line.{line}
 use Rattle.column.proofs.Line as L
 use Rattle.column.proofs.Line.Laws as L′
 use Rattle.records.specs.declared.entering.Entered.{Entered}
-use Rattle.column.specs.Column.{columnFrom, enteredOf, Reached, verdictNumber}
+use Rattle.column.specs.Column.{columnFrom, enteredOf, Reached}
 use Rattle.refusal.proofs.Said.{by-number, not-zero}
 use Rattle.records.specs.Entering.{Sits, outcomeOf, enteredAll}
 use Rattle.records.proofs.InPlace.{enters, stays as no-change}
@@ -150,7 +150,7 @@ module _ {M : Type 1} (𝓤 : URA M) (H : Heap 𝓤) (A : Atoms 𝓤) (W : Given
 
   -- how many lines are to be entered
   abbrev end : Entered → ℕ
-  end s = pick-one (eqb (verdictNumber (s .verdict)) 0) n 0
+  end s = pick-one (eqb (s .number) 0) n 0
 
   abbrev at-line : ℕ → Line
   at-line i = getD ls i past
@@ -342,7 +342,7 @@ module _ {M : Type 1} (𝓤 : URA M) (H : Heap 𝓤) (A : Atoms 𝓤) (W : Given
       left-none i e = ap (λ (k : ℕ). dropL k ls) e ∙ drop-length ls
 
       abbrev number : Had → ℕ
-      number h = verdictNumber (h .1 .0 .verdict)
+      number h = h .1 .0 .number
 
       turns : (t : ℕ) (h : Had) → Known t h → (number h ≡ 0) ⊎ (1 ≤ number h) → ent 𝓤 (Now h) (Wp 𝓤 H C Λ En turn (afterTurn 𝓤 H (Below t) Left))
       unfolding enteredAll outcomeOf
