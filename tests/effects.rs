@@ -113,12 +113,20 @@ fn try_whole(digits: &str, answer: &str) {
     }
 }
 
-// Every stored question: how many combinations, and how many single doubles.
-fn try_stored() -> [usize; 2] {
+// Stored whole numbers, handed over as doubles: the stored rows, or the stored number and effect.
+fn try_govern(digits: &str, answer: &str) {
+    let double = |number: &str| (u64::from_str_radix(number, 16).unwrap() as i64 as f64).to_bits();
+    let bits: Vec<u64> = digits.split(' ').map(double).collect();
+    let given = shown(&combine(bits.try_into().unwrap()));
+    assert!(given == answer || given.starts_with(&format!("{answer} double=")), "{digits}");
+}
+
+// Every stored question: how many combinations, of doubles and of whole numbers, and how many single doubles.
+fn try_stored() -> [usize; 3] {
     let questions = fs::read_to_string("crates/trial_combination/stdin").unwrap();
     let answers = fs::read_to_string("crates/trial_combination/stdout").unwrap();
     assert_eq!(questions.lines().count(), answers.lines().count());
-    let mut tried = [0; 2];
+    let mut tried = [0; 3];
     for (question, answer) in questions.lines().zip(answers.lines()) {
         match question.split_once(' ') {
             Some(("combine", digits)) => {
@@ -128,6 +136,10 @@ fn try_stored() -> [usize; 2] {
             Some(("whole", digits)) => {
                 try_whole(digits, answer);
                 tried[1] += 1;
+            }
+            Some(("govern", digits)) => {
+                try_govern(digits, answer);
+                tried[2] += 1;
             }
             _ => panic!("no such question: {question}"),
         }
@@ -209,9 +221,11 @@ fn try_random(sets: u64) -> (u64, [[u64; 2]; 7]) {
 }
 
 fn main() {
-    let [combinations, doubles] = try_stored();
+    let [combinations, doubles, whole] = try_stored();
     assert!(combinations >= 5000 && doubles >= 15_000, "only {combinations} and {doubles} stored questions");
+    assert!(whole >= 300, "only {whole} stored combinations of whole numbers");
     println!("{combinations} stored combinations agree, and {doubles} stored doubles at each of seven places");
+    println!("{whole} stored combinations of whole numbers agree, handed over as doubles");
     println!("{} NaNs at each of seven places came back bit for bit from check and combine", try_nans(100_000));
     let sets = 500_000;
     let (accepted, refused) = try_random(sets);

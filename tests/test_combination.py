@@ -13,7 +13,7 @@ from pathlib import Path
 
 sys.path.insert(0, str(Path(__file__).resolve().parent))
 
-from reckoning import trial_combination, trial_effects, trial_whole
+from reckoning import trial_combination, trial_effects, trial_govern, trial_whole
 from reckoning.combination import (
     LIMIT,
     NAMES,
@@ -21,6 +21,7 @@ from reckoning.combination import (
     Combined,
     Governing,
     Refused,
+    RefusedNumber,
     agreed,
     combine,
     combined,
@@ -29,8 +30,12 @@ from reckoning.combination import (
     effect_by_fields,
     effect_by_float,
     fields_of,
+    first_beyond,
+    first_beyond_by_least,
+    first_beyond_by_scan,
     first_refused,
     float_of,
+    govern,
     is_nan,
     pattern_of,
     require_governing,
@@ -44,6 +49,7 @@ from reckoning.trial_effects import BEYOND, NOT_WHOLE, PLACES, patterns, sharing
 from reckoning.trial_reduction import Lot
 
 MINUS_ZERO = 2**63
+LEAST, MOST = -(2**63), 2**63 - 1  # the ends of 64 bits with a sign
 HALF = Fraction(1, 2)
 ZEROS = (0,) * 7
 
@@ -246,6 +252,81 @@ class FirstRefused(unittest.TestCase):
         """Each list has its number alone."""
         self.assertEqual({effect(bad).refused for bad in NOT_WHOLE}, {8})
         self.assertEqual({effect(bad).refused for bad in BEYOND}, {9})
+
+
+class WholeNumbers(unittest.TestCase):
+    """Seven effects that are whole numbers already: number 9 alone, and the governing rows."""
+
+    def test_paper(self):
+        """The paper's case, the sheet's, and one with shared sums."""
+        for numbers, greatest, least in (*trial_effects.PAPER, trial_effects.SHARED):
+            self.assertEqual(govern(numbers), Combined(Governing(*greatest), Governing(*least)))
+
+    def test_extremes(self):
+        """Zeros, and all seven at the limit."""
+        self.assertEqual(govern(ZEROS), Combined(Governing(0, 1), Governing(0, 1)))
+        self.assertEqual(govern((LIMIT,) * 7), Combined(Governing(38 * LIMIT, 5), Governing(-LIMIT, 23)))
+        self.assertEqual(govern((-LIMIT,) * 7), Combined(Governing(LIMIT, 23), Governing(-38 * LIMIT, 5)))
+
+    def test_limit(self):
+        """In each place, with both signs: 10^12 is good and one more is not, alone and with all others at the limit."""
+        for place, sign, rest in product(PLACES, (1, -1), (0, 1, LIMIT, -LIMIT)):
+            seven = (rest,) * 7
+            self.assertIsInstance(govern(with_place(seven, place, sign * LIMIT)), Combined)
+            refused = RefusedNumber(9, NAMES[place])
+            self.assertEqual(govern(with_place(seven, place, sign * (LIMIT + 1))), refused)
+
+    def test_far_beyond(self):
+        """The ends of 64 bits, numbers that are no doubles, and those whose low bits are 0 or small; in each place."""
+        far = (LEAST, LEAST + 1, MOST, MOST - 1, 2**53 - 1, 2**53, 2**53 + 1, -(2**53) - 1, 2**40, 2**60, 2**62 + 1)
+        for place, number in product(PLACES, (*far, *trial_govern.BEYOND)):
+            self.assertEqual(govern(with_place(ZEROS, place, number)), RefusedNumber(9, NAMES[place]))
+
+    def test_first_decides(self):
+        """Beyond in any of the 127 sets of places: the first is told, whichever is the farthest."""
+        for count in range(1, 8):
+            for places, step in product(combinations(PLACES, count), (1, -1)):
+                case = (LIMIT,) * 7
+                for place in places:
+                    case = with_place(case, place, LIMIT + 4 + step * (place - 3))
+                case = with_place(case, places[0], case[places[0]] * step)
+                self.assertEqual(govern(case), RefusedNumber(9, NAMES[places[0]]))
+
+    def test_like_doubles(self):
+        """The same answer as the doubles give wherever there are such: sums and rows, or the number and the name."""
+        lot = Lot(23)
+        for _ in range(500):
+            numbers = trial_effects.accepted(lot)
+            self.assertEqual(govern(numbers), combine(patterns(numbers)))
+            bad = lot.one_of(trial_govern.FAR[:5]) * lot.one_of((1, -1))
+            numbers = with_place(numbers, lot.one_of(PLACES), bad)
+            found, doubles = govern(numbers), combine(patterns(numbers))
+            self.assertEqual((found.number, found.name), (doubles.number, doubles.name))
+
+    def test_two_ways(self):
+        """Going through the numbers and the least place of all say the same; None where all are good."""
+        lot = Lot(29)
+        for _ in range(2_000):
+            choices = (0, LIMIT, -LIMIT, lot.one_of(trial_govern.BEYOND), lot.between(LEAST, MOST))
+            numbers = [lot.one_of((*choices[:3], *choices)) for _ in PLACES]
+            self.assertEqual(first_beyond_by_scan(numbers), first_beyond_by_least(numbers))
+        self.assertIsNone(first_beyond((LIMIT, -LIMIT, *ZEROS[2:])))
+        self.assertEqual(first_beyond((LIMIT, -LIMIT - 1, *ZEROS[2:])), "live")
+
+    def test_not_seven_whole_numbers(self):
+        """Six, eight, a fraction or a double stop the making."""
+        for numbers in (ZEROS[1:], (*ZEROS, 0), (*ZEROS[1:], HALF), (1.0, *ZEROS[1:])):
+            self.assertRaises(AssertionError, govern, numbers)
+
+    def test_digits(self):
+        """The digits of the two's complement, typed out; a number of more bits stops the making."""
+        known = {0: "0" * 16, 1: "0" * 15 + "1", -1: "f" * 16, LEAST: "8" + "0" * 15, MOST: "7" + "f" * 15}
+        known |= {LIMIT: "000000e8d4a51000", -LIMIT: "ffffff172b5af000", LIMIT + 1: "000000e8d4a51001"}
+        known |= {-LIMIT - 1: "ffffff172b5aefff", 100_000: "00000000000186a0", 2**53: "0020000000000000"}
+        for number, digits in known.items():
+            self.assertEqual(trial_combination.signed_digits(number), digits)
+        for number in (LEAST - 1, MOST + 1):
+            self.assertRaises(AssertionError, trial_combination.signed_digits, number)
 
 
 # ---- The cases -----------------------------------------------------------
@@ -499,6 +580,141 @@ class SevenCases(unittest.TestCase):
         self.assertLessEqual(set(product(NAMES, (*NOT_WHOLE, *BEYOND))), found)
 
 
+class GovernCases(unittest.TestCase):
+    """What the questions about seven whole numbers hold."""
+
+    @classmethod
+    def setUpClass(cls):
+        """The cases and their answers once."""
+        cls.list = trial_combination.governs()
+        cls.cases = set(cls.list)
+        cls.answers = [govern(case) for case in cls.list]
+        cls.accepted = [case for case, answer in zip(cls.list, cls.answers) if isinstance(answer, Combined)]
+        cls.beyond = [case for case, answer in zip(cls.list, cls.answers) if isinstance(answer, RefusedNumber)]
+
+    @staticmethod
+    def places_beyond(case):
+        """The places of the numbers beyond the limit."""
+        return tuple(place for place in PLACES if not -LIMIT <= case[place] <= LIMIT)
+
+    @staticmethod
+    def both_rows(cases):
+        """The row of the greatest sum and that of the least, of each case."""
+        return {(sharing(case, 1)[0], sharing(case, -1)[0]) for case in cases}
+
+    def noticed(self, wrong):
+        """How many cases come out differently when each number is first read in a wrong way."""
+        return sum(govern([wrong(number) for number in case]) != was for case, was in zip(self.list, self.answers))
+
+    def test_count(self):
+        """300 to 400, none twice, the paper's first; each number has 64 bits with a sign."""
+        self.assertTrue(300 <= len(self.list) <= 400)
+        self.assertEqual(len(self.list), len(self.cases))
+        first = [numbers for numbers, *_rest in (*trial_effects.PAPER, trial_effects.SHARED)]
+        self.assertEqual(list(self.list[:3]), first)
+        self.assertEqual(first[:2], [(100_000, 0, 0, 0, 0, 60_000, 0), (100_000, 41_856, 0, 0, 0, 0, 0)])
+        self.assertIn(ZEROS, self.cases)
+        self.assertEqual((min(map(min, self.list)), max(map(max, self.list))), (LEAST, MOST))
+
+    def test_alone(self):
+        """In each place with the rest 0: the limit, one beyond, the ends of 64 bits, about 2^53; both signs."""
+        sizes = [sign * size for size in (1, LIMIT, LIMIT + 1, 2**53 - 1, 2**53, 2**53 + 1) for sign in (1, -1)]
+        for place, size in product(PLACES, (*sizes, LEAST, MOST)):
+            self.assertIn(with_place(ZEROS, place, size), self.cases)
+
+    def test_beyond(self):
+        """Each place is the first beyond often; every pair of places twice, once with the rest 0; three to seven."""
+        found = Counter(self.places_beyond(case) for case in self.beyond)
+        with_zeros = Counter(self.places_beyond(case) for case in self.beyond if case.count(0) == 5)
+        firsts, sizes = Counter(), Counter()
+        for places, count in found.items():
+            firsts[places[0]] += count
+            sizes[len(places)] += count
+        self.assertGreaterEqual(min(firsts[place] for place in PLACES), 12)
+        for pair in combinations(PLACES, 2):
+            self.assertGreaterEqual(found[pair], 2)
+            self.assertGreaterEqual(with_zeros[pair], 1)
+        self.assertGreaterEqual(min(sizes[count] for count in range(1, 8)), 2)
+
+    def test_names(self):
+        """Each refusal names its first place, and there are enough of refusals and of sums."""
+        for case, answer in zip(self.list, self.answers):
+            places = self.places_beyond(case)
+            self.assertEqual(isinstance(answer, RefusedNumber), places != ())
+            if places:
+                self.assertEqual(answer, RefusedNumber(9, NAMES[places[0]]))
+        self.assertGreaterEqual(len(self.accepted), 200)
+        self.assertGreaterEqual(len(self.beyond), 130)
+
+    def test_limits_together(self):
+        """All seven at the limit: every two rows that can govern together so; with zeros among them, all 25 rows."""
+        rows = {}
+        for values in ((1, -1), (1, 0, -1)):
+            every = {tuple(LIMIT * sign for sign in signs) for signs in product(values, repeat=7)}
+            rows[values] = [self.both_rows(every), self.both_rows(every & self.cases)]
+        self.assertEqual(*rows[1, -1])
+        self.assertEqual(len(rows[1, -1][0]), 28)
+        for end in (0, 1):
+            self.assertEqual({both[end] for both in rows[1, 0, -1][1]}, set(range(1, 26)))
+        self.assertLessEqual({(LIMIT,) * 7, (-LIMIT,) * 7}, self.cases)
+
+    def test_every_row_governs(self):
+        """Each row is the greatest, and the least, at least twice, and once alone with no effect 0."""
+        combined_ = [answer for answer in self.answers if isinstance(answer, Combined)]
+        for found in (Counter(a.greatest.row for a in combined_), Counter(a.least.row for a in combined_)):
+            self.assertEqual(sorted(found), list(range(1, 26)))
+            self.assertGreaterEqual(min(found.values()), 2)
+        for sign in (1, -1):
+            alone = Counter(sharing(numbers, sign) for numbers in self.accepted if 0 not in numbers)
+            self.assertGreaterEqual(min(alone[row,] for row in range(1, 26)), 1)
+
+    def test_shared_sums(self):
+        """Two rows share a governing sum, and three or more, in many ways at both ends."""
+        for sign in (1, -1):
+            found = {sharing(numbers, sign) for numbers in self.accepted}
+            self.assertGreaterEqual(sum(len(rows) == 2 for rows in found), 15)
+            self.assertGreaterEqual(sum(len(rows) > 2 for rows in found), 20)
+            self.assertIn(tuple(range(1, 26)), found)
+
+    def test_sizes(self):
+        """Small numbers and great ones, and of many sizes between."""
+        sizes = Counter(abs(number).bit_length() for case in self.accepted for number in case)
+        self.assertGreaterEqual(min(sizes[bits] for bits in range(41)), 4)
+        self.assertGreaterEqual(sum(max(map(abs, case)) < 10 for case in self.accepted), 15)
+
+    def test_limit_off_by_one(self):
+        """10^12 refused, or 10^12 + 1 accepted, in each place with both signs, alone and among others."""
+        for place, sign in product(PLACES, (1, -1)):
+            at_limit = [case for case in self.accepted if case[place] == sign * LIMIT]
+            beyond = [case for case in self.beyond if case[place] == sign * (LIMIT + 1)]
+            self.assertGreaterEqual(len(at_limit), 10)
+            self.assertGreaterEqual(sum(self.places_beyond(case) == (place,) for case in beyond), 2)
+
+    def test_wrong_readings(self):
+        """No sign, the size of the least number lost, 32 bits alone, 53 bits alone, and a double's digits."""
+        self.assertGreater(self.noticed(lambda number: number % 2**64), 100)
+        self.assertGreaterEqual(self.noticed(lambda number: 0 if number == LEAST else number), 7)
+        self.assertGreater(self.noticed(lambda number: (number + 2**31) % 2**32 - 2**31), 100)
+        self.assertGreaterEqual(self.noticed(lambda number: (number + 2**52) % 2**53 - 2**52), 14)
+        doubles = (tuple(pattern_of(number) for number in numbers) for numbers, *_rest in trial_effects.PAPER)
+        self.assertLessEqual(set(doubles), set(self.beyond))
+
+    def test_wrong_order(self):
+        """The last beyond in place of the first, or the one farthest beyond."""
+        last = [case for case in self.beyond if len(self.places_beyond(case)) > 1]
+        farthest = [case for case in last if max(map(abs, case)) > abs(case[self.places_beyond(case)[0]])]
+        self.assertGreaterEqual(len(last), 50)
+        self.assertGreaterEqual(len(farthest), 20)
+
+    def test_wrong_rows(self):
+        """The last of equal rows, W for E, and Lr, S and R in any other order."""
+        for sign in (1, -1):
+            self.assertGreaterEqual(sum(len(sharing(numbers, sign)) > 1 for numbers in self.accepted), 80)
+        for order in ((1, 2, 3, 4, 6, 5), *((1, *turn, 5, 6) for turn in permutations((2, 3, 4)) if turn != (2, 3, 4))):
+            other = [tuple(case[place] for place in (0, *order)) for case in self.accepted]
+            self.assertGreater(sum(govern(case) != govern(was) for case, was in zip(other, self.accepted)), 80)
+
+
 class Texts(unittest.TestCase):
     """The form of the two texts."""
 
@@ -507,6 +723,7 @@ class Texts(unittest.TestCase):
         ("whole H", "whole=T|refused=8 double=(?:H|nan)|refused=9 double=H"),
         ("combine(?: H){7}", "max=T row=R double=H min=T row=R double=H|refused=8 effect=E double=(?:H|nan)"),
         ("combine(?: H){7}", "refused=9 effect=E double=H"),
+        ("govern(?: H){7}", "max=T row=R double=H min=T row=R double=H|refused=9 effect=E"),
     )
     PARTS = {"H": "[0-9a-f]{16}", "T": "(?:0|-?[1-9][0-9]{0,13})", "R": "(?:[1-9]|1[0-9]|2[0-5])"}
 
@@ -526,8 +743,14 @@ class Texts(unittest.TestCase):
             self.assertTrue(form.fullmatch("\t".join(pair)), pair)
         for part, text in enumerate(self.texts):
             self.assertEqual(text, "".join(pair[part] + "\n" for pair in self.pairs))
-            self.assertLess(len(text), 1_000_000)
+            self.assertLess(len(text), (1_040_000, 1_048_576)[part])
         self.assertEqual(len(self.pairs), trial_combination.case_count())
+
+    def test_order(self):
+        """First all single doubles, then all seven doubles, then all seven whole numbers, as the tally counts them."""
+        words = [read.split()[0] for read, _printed in self.pairs]
+        wholes, combines, governs_ = trial_combination.tally().values()
+        self.assertEqual(words, ["whole"] * wholes + ["combine"] * combines + ["govern"] * governs_)
 
     def test_printed_doubles(self):
         """Each printed double is exactly the printed sum; a refused one is that of the question, NaN apart."""
@@ -535,18 +758,40 @@ class Texts(unittest.TestCase):
             for tenths, double in re.findall("(?:max|min)=(-?[0-9]+) row=[0-9]+ double=([0-9a-f]+)", printed):
                 self.assertEqual(Fraction(float_of(int(double, 16))), int(tenths))
                 self.assertNotEqual(double, f"{MINUS_ZERO:016x}")
-            if printed.startswith("refused=") and not printed.endswith("nan"):
+            if " double=" in printed and printed.startswith("refused=") and not printed.endswith("nan"):
                 self.assertIn(printed.rpartition("=")[2], read.split())
+
+    def test_govern_like_combine(self):
+        """A line of whole numbers within the limit is answered as the line of the same doubles."""
+        found = 0
+        for read, printed in self.pairs:
+            word, *digits = read.split()
+            if word == "govern" and printed.startswith("max="):
+                numbers = [int.from_bytes(bytes.fromhex(each), "big", signed=True) for each in digits]
+                self.assertEqual(trial_combination.told_combined(patterns(numbers)), printed)
+                found += 1
+        self.assertGreaterEqual(found, 200)
 
     def test_known_lines(self):
         """Lines written out by hand."""
         zero, dead, live, wind = "0" * 16, "40f86a0000000000", "40e4700000000000", "40ed4c0000000000"
         sheet = "max=1869696 row=2 double=413c878000000000 min=900000 row=22 double=412b774000000000"
         alone = "max=1800000 row=14 double=413b774000000000 min=300000 row=23 double=41124f8000000000"
+        minus_one = "max=-9 row=22 double=c022000000000000 min=-14 row=1 double=c02c000000000000"
+        most = "max=38000000000000 row=5 double=42c147c840300000 min=-1000000000000 row=23 double=c26d1a94a2000000"
         known = {
             " ".join(("combine", dead, live, *[zero] * 5)): sheet,
             " ".join(("combine", dead, *[zero] * 4, wind, zero)): alone,
             " ".join(("combine", *[zero] * 7)): f"max=0 row=1 double={zero} min=0 row=1 double={zero}",
+            " ".join(("govern", "00000000000186a0", "000000000000a380", *[zero] * 5)): sheet,
+            " ".join(("govern", "00000000000186a0", *[zero] * 4, "000000000000ea60", zero)): alone,
+            " ".join(("govern", *[zero] * 7)): f"max=0 row=1 double={zero} min=0 row=1 double={zero}",
+            " ".join(("govern", "f" * 16, *[zero] * 6)): minus_one,
+            " ".join(("govern", *["000000e8d4a51000"] * 7)): most,
+            " ".join(("govern", "000000e8d4a51001", *[zero] * 6)): "refused=9 effect=dead",
+            " ".join(("govern", *[zero] * 6, "ffffff172b5aefff")): "refused=9 effect=quake",
+            " ".join(("govern", *[zero] * 2, "8000000000000000", *[zero] * 4)): "refused=9 effect=roof",
+            " ".join(("govern", *["7fffffffffffffff"] * 7)): "refused=9 effect=dead",
             "whole 8000000000000000": "whole=0",
             "whole bff0000000000000": "whole=-1",
             "whole 426d1a94a2000000": "whole=1000000000000",
@@ -566,6 +811,8 @@ class Texts(unittest.TestCase):
         self.assertEqual(tuple(again), trial_combination.sevens())
         again = [case for kind in trial_whole.cases_by_kind().values() for case in kind]
         self.assertEqual(tuple(again), trial_combination.wholes())
+        again = [case for kind in trial_govern.cases_by_kind().values() for case in kind]
+        self.assertEqual(tuple(again), trial_combination.governs())
 
 
 if __name__ == "__main__":

@@ -21,6 +21,14 @@ class Refused:
 
 
 @dataclass(frozen=True)
+class RefusedNumber:
+    """The first refused of seven whole numbers: the paper's number and the effect's name; there is no double."""
+
+    number: int
+    name: str
+
+
+@dataclass(frozen=True)
 class Governing:
     """A governing sum in whole tenths of a newton, and its row."""
 
@@ -266,3 +274,38 @@ def combine(patterns):
     if refused is not None:
         return refused
     return combined([effect(pattern).value for pattern in patterns])
+
+
+# ---- Seven whole numbers -------------------------------------------------
+
+
+def first_beyond_by_scan(numbers):
+    """The place of the first number beyond the limit, going through them D to E, or None."""
+    for place, number in enumerate(numbers):
+        if number > LIMIT or number < -LIMIT:
+            return place
+    return None
+
+
+def first_beyond_by_least(numbers):
+    """The least place of all whose number is beyond the limit in size, or None."""
+    return min((place for place, number in enumerate(numbers) if abs(number) >= LIMIT + 1), default=None)
+
+
+def first_beyond(numbers):
+    """'Beyond +-1,000,000,000,000', 'D to E as listed': the first such effect's name, or None; both ways must agree."""
+    if len(numbers) != 7 or not all(type(number) is int for number in numbers):
+        raise AssertionError(f"{numbers} are not seven whole numbers")
+    place = agreed(first_beyond_by_scan(numbers), first_beyond_by_least(numbers), f"first beyond of {numbers}")
+    return None if place is None else NAMES[place]
+
+
+def govern(numbers):
+    """The greatest and the least sum of seven effects that are whole numbers, or the first beyond the limit.
+
+    Number 8 cannot hold. Within the limit every number is a double too, and the doubles must give the same.
+    """
+    name = first_beyond(numbers)
+    if name is not None:
+        return RefusedNumber(9, name)
+    return agreed(combined(numbers), combine([double_of(number) for number in numbers]), f"governing {numbers}")

@@ -8,7 +8,7 @@ use native.Mathlib.Omega.{arith}
 use lib.Dec.{leb, ltb, eqb}
 use lib.ListN.{length, length-append}
 use borrow.Author.Tests.{leb-false, ltb-false, eqb-true, ne-eqb, not-false}
-use Rattle.member.specs.Numbers.{between}
+use Rattle.member.specs.Between.{between}
 use Rattle.lists.specs.Lists.{All, none}
 use Rattle.member.proofs.Tests.{limits}
 use Rattle.column.specs.declared.Line.{Line}

@@ -6,7 +6,7 @@ use Rattle.combination.specs.Factors.{combinations, factorIn, factors}
 use Rattle.combination.specs.Governing.{sumOf, sums, better, bestFrom, best}
 use Rattle.combination.specs.Combine.{governing}
 use Rattle.combination.specs.Examples.{examples, Holds}
-use Rattle.effects.proofs.Numbers.{seven-of}
+use Rattle.effects.proofs.Sevens.{seven-of}
 use Rattle.combination.proofs.Answers.{newtons-combined}
 
 pub examples-hold : All Holds examples

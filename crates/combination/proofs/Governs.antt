@@ -3,19 +3,19 @@ use mathlib.Core.Path.{_≡_, refl, sym, _∙_, subst}
 use mathlib.Core.Bool.{Bool, true, false, true≢false, not, cond}
 use mathlib.Core.Logic.{⊎-elim}
 use mathlib.Core.List.{List, [], _∷_}
-use Prim.Native.Nat.{ℕ, zero, suc, _+_, _-_, _^_, _≤_, _<_}
-use native.Mathlib.Nat.{eq-or-lt-of-le, le-of-suc-le-suc, le-trans, not-suc-le-zero}
+use Prim.Native.Nat.{ℕ, zero, suc, _+_, _-_, _≤_, _<_}
+use native.Mathlib.Nat.{eq-or-lt-of-le, le-of-suc-le-suc, not-suc-le-zero}
 use native.Mathlib.Numerals.{add-one}
 use native.Mathlib.Omega.{arith}
-use lib.Dec.{T, lit≤}
+use lib.Dec.{T}
 use lib.IntN.{ℤ, pos, negsuc, natAbs}
 use lib.ListN.{length, getD, drop, drop-of-length-le}
 use lib.Seq.{drop-cons}
 use lib.Signed.{ltZ, ltZ-no, <ℤ-≤ℤ-trans}
 use borrow.Author.Tests.{le-ltb, ltb-true}
+use Rattle.effects.specs.Sized.{EachAtMost}
 use Rattle.combination.specs.declared.search.Best.{Best}
-use Rattle.combination.specs.Governing.{greater, less, better, bestFrom, best, Governs}
-use Rattle.combination.proofs.Sums.{mostSum}
+use Rattle.combination.specs.Governing.{greater, less, better, bestFrom, best, GovernsFirst, Governs}
 
 -- ---- a step of the search, and its end
 
@@ -83,7 +83,7 @@ greater-order = record { one-way = λ a b e. less-one-way b a e; past = greater-
 -- ---- what the search finds governs
 
 -- what holds below n, and of n, holds below n + 1
-below-more : (n : ℕ) (P : ℕ → Type 0) → ((i : ℕ) → i < n → P i) → P n → (i : ℕ) → i < suc n → P i
+pub below-more : (n : ℕ) (P : ℕ → Type 0) → ((i : ℕ) → i < n → P i) → P n → (i : ℕ) → i < suc n → P i
 below-more n P f p i h = ⊎-elim (λ e. subst P (sym e) p) (λ l. f i l) (eq-or-lt-of-le (le-of-suc-le-suc h))
 
 module _ {beats : ℤ → ℤ → Bool} (o : Order beats) (ss : List ℤ) where
@@ -96,7 +96,7 @@ module _ {beats : ℤ → ℤ → Bool} (o : Order beats) (ss : List ℤ) where
 
   -- b governs the first n rows
   abbrev Leads : ℕ → Best → Type 0
-  Leads n b = Governs beats ss n (b .row) (b .tenths)
+  Leads n b = GovernsFirst beats ss n (b .row) (b .tenths)
 
   -- one row more
   more : (n : ℕ) (b : Best) → Leads n b → Leads (suc n) (better beats b (suc n) (getD ss n (pos 0)))
@@ -137,8 +137,8 @@ module _ {beats : ℤ → ℤ → Bool} (o : Order beats) (ss : List ℤ) where
       subst (Leads (length ss)) (sym (best-step beats ss b n (omega arith)))
       (rest d (suc n) (better beats b (suc n) (getD ss n (pos 0))) (omega arith) (more n b g))
 
-  pub governs : 0 < length ss → Governs beats ss (length ss) (best beats ss .row) (best beats ss .tenths)
-  governs h =
+  pub best-governs : 0 < length ss → Governs beats ss (best beats ss .row) (best beats ss .tenths)
+  best-governs h =
       subst (Leads (length ss)) (best-first beats ss h)
       (rest (length ss - 1) 1 (record { row = 1; tenths = getD ss 0 (pos 0) }) (omega arith)
       (record {
@@ -153,11 +153,6 @@ module _ {beats : ℤ → ℤ → Bool} (o : Order beats) (ss : List ℤ) where
       nothing-below : {A : Type 0} (i : ℕ) → i < 0 → A
       nothing-below i l = absurd (not-suc-le-zero l)
 
-module _ {beats : ℤ → ℤ → Bool} (o : Order beats) (ss : List ℤ) (h : length ss ≡ 25) where
-  -- so it does among 25 sums
-  pub best-governs : Governs beats ss 25 (best beats ss .row) (best beats ss .tenths)
-  best-governs = subst (λ (n : ℕ). Governs beats ss n (best beats ss .row) (best beats ss .tenths)) h (governs o ss (omega arith))
-
-  -- and has a sum that a double holds, where each of them is one
-  pub best-small : ((i : ℕ) → i < 25 → natAbs (getD ss i (pos 0)) ≤ mostSum) → natAbs (best beats ss .tenths) ≤ 2 ^ 53
-  best-small f = subst (λ (z : ℤ). natAbs z ≤ 2 ^ 53) (sym (best-governs .sum-is)) (le-trans (f (best-governs .index) (best-governs .among)) (lit≤ tt))
+  -- and is no larger than the largest sum
+  pub best-small : {most : ℕ} → 0 < length ss → EachAtMost most ss → natAbs (best beats ss .tenths) ≤ most
+  best-small {most} h f = let g = best-governs h in subst (λ (z : ℤ). natAbs z ≤ most) (sym (g .sum-is)) (f (g .index))

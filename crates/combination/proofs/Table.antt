@@ -8,11 +8,11 @@ use lib.IntN.{ℤ, pos, natAbs}
 use lib.ListN.{length, getD, length-map, List·getD-map}
 use Rattle.effects.specs.Check.{placeOf}
 use Rattle.newtons.specs.Effect.{limit}
-use Rattle.effects.specs.Fit.{Seven}
+use Rattle.effects.specs.Sized.{EachAtMost, Seven}
 use Rattle.combination.specs.Factors.{combinations, factorIn, factors}
 use Rattle.combination.specs.Governing.{sumOf, sums}
-use Rattle.effects.proofs.Numbers.{every, at, sevenTest, seven-of}
-use Rattle.combination.proofs.Sums.{mostSum, sum-small}
+use Rattle.effects.proofs.Sevens.{each-below, every, at, sevenTest, seven-of}
+use Rattle.combination.proofs.RowSums.{mostSum, sum-small}
 
 pub factors-length : length factors ≡ 25
 unfolding factors combinations
@@ -36,5 +36,10 @@ pub sum-at : (xs : List ℤ) (i : ℕ) → getD (sums xs) i (pos 0) ≡ sumOf (g
 unfolding sums sumOf
 sum-at xs i = List·getD-map (λ row. sumOf row xs) factors i []
 
-pub sums-small : (xs : List ℤ) → Seven limit xs → (i : ℕ) → i < 25 → natAbs (getD (sums xs) i (pos 0)) ≤ mostSum
-sums-small xs X i h = subst (λ (z : ℤ). natAbs z ≤ mostSum) (sym (sum-at xs i)) (sum-small (getD factors i []) xs (row-fits i h) X 0)
+pub sums-some : (xs : List ℤ) → 0 < length (sums xs)
+sums-some xs = omega (arith, sums-length xs)
+
+pub sums-small : (xs : List ℤ) → Seven limit xs → EachAtMost mostSum (sums xs)
+sums-small xs X =
+    each-below (sums xs)
+    (λ i h. subst (λ (z : ℤ). natAbs z ≤ mostSum) (sym (sum-at xs i)) (sum-small (getD factors i []) xs (row-fits i (omega (arith, sums-length xs))) X 0))

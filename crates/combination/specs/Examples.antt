@@ -4,7 +4,7 @@ use mathlib.Core.Path.{_≡_}
 use mathlib.Core.List.{List, [], _∷_}
 use lib.IntN.{ℤ, pos}
 use Rattle.effects.specs.declared.Newtons.{Newtons}
-use Rattle.refusal.specs.Told.{gives}
+use Rattle.refusal.specs.Said.{gives}
 use Rattle.effects.specs.Check.{doublesOf}
 use Rattle.combination.specs.declared.search.Best.{Best}
 use Rattle.combination.specs.Combine.{rowOf, combinedOf}

@@ -13,10 +13,10 @@ use lib.Seq.{take-all, drop-cons, take-suc-set}
 use Rattle.effects.specs.declared.Effects.{Effects}
 use Rattle.effects.specs.declared.Newtons.{Newtons}
 use Rattle.effects.specs.declared.LoadEffect.{LoadEffect}
-use Rattle.refusal.specs.Told.{Told, gives, refused}
+use Rattle.refusal.specs.Said.{Told, gives, refused}
 use Rattle.newtons.specs.Effect.{limit, effectOf}
 use Rattle.effects.specs.Check.{loadEffect, listed, newtonsOf, doublesOf, ifGiven, checkedFrom, checkedOf}
-use Rattle.effects.specs.Fit.{EachAtMost, Sized, Seven}
+use Rattle.effects.specs.Sized.{EachAtMost, Sized, Seven}
 use Rattle.newtons.proofs.Values.{value-back}
 use Rattle.newtons.proofs.Limits.{effect-whole, effect-within}
 

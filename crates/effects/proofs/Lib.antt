@@ -1,3 +1,3 @@
 -- Laws of seven numbers and of the check of seven.
-pub mod Numbers
+pub mod Sevens
 pub mod Checks

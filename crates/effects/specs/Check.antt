@@ -12,7 +12,7 @@ use Rattle.effects.specs.declared.Newtons.{Newtons}
 use Rattle.effects.specs.declared.LoadEffect.{LoadEffect}
 use Rattle.effects.specs.declared.Checked.{Checked}
 use Rattle.effects.specs.declared.Checked.the-variants as C
-use Rattle.refusal.specs.Told.{Told, gives, refused}
+use Rattle.refusal.specs.Said.{Told, gives, refused}
 use Rattle.newtons.specs.Effect.{effectOf}
 
 -- 01, Numbers by the place of checking: the place of an effect in the list, D to E
@@ -24,6 +24,10 @@ placeOf Snow = 4
 placeOf Rain = 5
 placeOf Wind = 6
 placeOf Quake = 7
+
+-- 01, Effects and the 25 combinations: "D dead, L live, Lr roof, S snow, R rain, W wind, E earthquake"
+abbrev pub loads : List Load
+loads = Dead ∷ Live ∷ Roof ∷ Snow ∷ Rain ∷ Wind ∷ Quake ∷ []
 
 -- the effect of one load
 abbrev pub loadEffect : Load → Float → LoadEffect

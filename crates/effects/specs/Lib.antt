@@ -1,3 +1,3 @@
 -- The check of the seven effects, then what private functions ask.
 pub mod Check
-pub mod Fit
+pub mod Sized

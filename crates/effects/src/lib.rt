@@ -1,10 +1,10 @@
 // The effects of loads, handed over as doubles and checked: whole newtons, or the first that is refused.
 ghost use mathlib.Core.Path.{_≡_};
 ghost use Rattle.refusal.specs.Refusal.{numberOf};
-ghost use Rattle.refusal.specs.Told.{refused};
+ghost use Rattle.refusal.specs.Said.{refused};
 ghost use Rattle.newtons.specs.Effect.{limit};
 ghost use Rattle.effects.specs.Check.{placeOf, loadEffect, listed, newtonsOf, checkedOf, saidChecked};
-ghost use Rattle.effects.specs.Fit.{Seven};
+ghost use Rattle.effects.specs.Sized.{Seven};
 use newtons::Effect;
 use refusal::Refusal;
 

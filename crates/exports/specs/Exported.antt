@@ -5,8 +5,7 @@ use mathlib.Core.List.{List}
 use Prim.Native.Nat.{ℕ}
 use lib.IntN.{ℤ, pos}
 use lib.Ieee.{Float, fin}
-use Rattle.refusal.specs.Said.{Said, gives, refused}
-use Rattle.refusal.specs.Told as told
+use Rattle.refusal.specs.Said.{Said, gives, refused, Told}
 use Rattle.figure.specs.declared.Working.{Working}
 use Rattle.effects.specs.declared.LoadEffect.{LoadEffect}
 use Rattle.combination.specs.declared.GoverningRow.{GoverningRow}
@@ -22,17 +21,17 @@ use Rattle.exports.specs.declared.reductions.BungeroReduced.{BungeroRedu
 -- 01, Numbers by the place of checking: n, X and the figure with the number 0, or the number of the refusal with zeros
 unfoldable pub shownOf : Said Working → BungeroFigure
 shownOf (gives w) = record { number = 0; floors = w .floors; influence = w .influence .0; figure = w .figure }
-shownOf (refused n) = record { number = n; floors = 0; influence = 0; figure = 0 }
+shownOf (refused n _) = record { number = n; floors = 0; influence = 0; figure = 0 }
 
 -- 01, Member, line, floor: n, X and the figure with the number 0 and the place 0, or the number and place of the refusal with zeros
-unfoldable pub shownListed : told.Told ℕ Working → BungeroListed
-shownListed (told.gives w) = record { number = 0; place = 0; floors = w .floors; influence = w .influence .0; figure = w .figure }
-shownListed (told.refused n place) = record { number = n; place = place; floors = 0; influence = 0; figure = 0 }
+unfoldable pub shownListed : Told ℕ Working → BungeroListed
+shownListed (gives w) = record { number = 0; place = 0; floors = w .floors; influence = w .influence .0; figure = w .figure }
+shownListed (refused n place) = record { number = n; place = place; floors = 0; influence = 0; figure = 0 }
 
 -- 01, Reduced load and figure: R with the number 0, or the number of the refusal with 0
 unfoldable pub shownReduced : Said ℕ → BungeroReduced
 shownReduced (gives r) = record { number = 0; reduced = r }
-shownReduced (refused n) = record { number = n; reduced = 0 }
+shownReduced (refused n _) = record { number = n; reduced = 0 }
 
 -- what stands where there is nothing to hand out; no part of the paper
 abbrev pub plusZero : Float
@@ -42,9 +41,9 @@ abbrev pub noRow : GoverningRow
 noRow = record { row = 0; tenths = pos 0; double = plusZero }
 
 -- 01, Effects and the 25 combinations: the governing rows with the number 0, or the number of the refusal, which effect it is, and its double
-unfoldable pub shownCombined : told.Told LoadEffect Governing → BungeroCombined
-shownCombined (told.gives g) = record { number = 0; place = 0; double = plusZero; governing = g }
-shownCombined (told.refused n e) = record { number = n; place = placeOf (e .load); double = e .double; governing = record { greatest = noRow; least = noRow } }
+unfoldable pub shownCombined : Told LoadEffect Governing → BungeroCombined
+shownCombined (gives g) = record { number = 0; place = 0; double = plusZero; governing = g }
+shownCombined (refused n e) = record { number = n; place = placeOf (e .load); double = e .double; governing = record { greatest = noRow; least = noRow } }
 
 -- the same for seven effects; no part of the paper
 abbrev pub noNewtons : Newtons
@@ -62,6 +61,6 @@ unfoldable pub handedOut : BungeroChecked → HandedOut
 handedOut r = record { number = r .number; place = r .place; double = r .double; newtons = newtonsOf (r .newtons) }
 
 -- 01, Effects and the 25 combinations: the whole newtons with the number 0, or the number of the refusal, which effect it is, and its double
-unfoldable pub shownChecked : told.Told LoadEffect (List ℤ) → HandedOut
-shownChecked (told.gives zs) = record { number = 0; place = 0; double = plusZero; newtons = zs }
-shownChecked (told.refused n e) = record { number = n; place = placeOf (e .load); double = e .double; newtons = newtonsOf noNewtons }
+unfoldable pub shownChecked : Told LoadEffect (List ℤ) → HandedOut
+shownChecked (gives zs) = record { number = 0; place = 0; double = plusZero; newtons = zs }
+shownChecked (refused n e) = record { number = n; place = placeOf (e .load); double = e .double; newtons = newtonsOf noNewtons }

@@ -1,7 +1,7 @@
 -- Laws of what holds at a floor.
 pub mod Carried
 pub mod Order
-pub mod Places
+pub mod HeldLines
 pub mod ByRate
 pub mod Shares
 pub mod Most

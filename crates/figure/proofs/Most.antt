@@ -7,7 +7,7 @@ use Prim.Native.Nat.{ℕ, suc, _+_, _≤_}
 use native.Mathlib.Nat.{le-trans, mul-le-mul}
 use native.Mathlib.Omega.{arith}
 use lib.ListN.{length}
-use Rattle.refusal.specs.Said.{gives, refused}
+use Rattle.refusal.specs.Said.{gives, refused, nothing}
 use Rattle.lists.specs.Lists.{All}
 use Rattle.reduction.specs.declared.InfluenceArea.{InfluenceArea}
 use Rattle.member.proofs.Member.{factor-most}
@@ -76,7 +76,7 @@ module _ (c : Column) (ok : Sound c) (f : ℕ) where
 pub asked-given : (m : Member) (ls : List Line) (f : ℕ) {w : Working} → askedOf m ls f ≡ gives w → (hasFloor f ls ≡ true) × (workingOf m ls f ≡ w)
 unfolding askedOf
 asked-given m ls f {w} =
-    cases (λ (b : Bool). cond b (gives (workingOf m ls f)) (refused 7) ≡ gives w → (b ≡ true) × (workingOf m ls f ≡ w)) (hasFloor f ls)
+    cases (λ (b : Bool). cond b (gives (workingOf m ls f)) (refused 7 nothing) ≡ gives w → (b ≡ true) × (workingOf m ls f ≡ w)) (hasFloor f ls)
     (λ e q. (refl, cc)) (λ e q. let z : _≡_ {A = ℕ} 0 1 = cc in absurd (omega arith))
 
 -- so what asking a reached column gives is no larger

@@ -31,7 +31,7 @@ use Rattle.figure.specs.Descent.{FloorEndOf, threePut, Descended, NextOf
 use Rattle.figure.proofs.Carried.{Other, has-none, has-in, floors-run, carried-front, area-total}
 use Rattle.figure.proofs.Order.{reached-ordered}
 use Rattle.figure.proofs.Lowest.{lowest-all}
-use Rattle.figure.proofs.Places.{room, held-before, held-at, line-between, above-at, after-at, sum-none}
+use Rattle.figure.proofs.HeldLines.{room, held-before, held-at, line-between, above-at, after-at, sum-none}
 use Rattle.figure.proofs.Workings.{passedTo, passed-over, passed-put, passed-all}
 
 module _ {m : Member} {count : ℕ} {places : List ℕ} where

@@ -18,7 +18,7 @@ use Rattle.figure.specs.Workings.{workingNumbers, workingsOf}
 pub numbers-three : (s : Said Working) → length (workingNumbers s) ≡ 3
 unfolding workingNumbers
 numbers-three (gives w) = refl
-numbers-three (refused n) = refl
+numbers-three (refused n _) = refl
 
 pub workings-length : (c : Column) (f : ℕ) → length (workingsOf c f) ≡ 3 * f
 unfolding workingsOf

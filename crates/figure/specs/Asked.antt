@@ -3,7 +3,7 @@
 use mathlib.Core.Bool.{cond}
 use mathlib.Core.List.{List}
 use Prim.Native.Nat.{ℕ}
-use Rattle.refusal.specs.Said.{Said, gives, refused}
+use Rattle.refusal.specs.Said.{Said, gives, refused, nothing}
 use Rattle.column.specs.declared.Line.{Line}
 use Rattle.column.specs.declared.Member.{Member}
 use Rattle.column.specs.declared.Column.{Column}
@@ -25,7 +25,7 @@ workingOf m ls f =
 
 -- 01, Numbers by the place of checking: asking at a floor; 7 where no accepted line has that floor
 unfoldable pub askedOf : Member → List Line → ℕ → Said Working
-askedOf m ls f = cond (hasFloor f ls) (gives (workingOf m ls f)) (refused 7)
+askedOf m ls f = cond (hasFloor f ls) (gives (workingOf m ls f)) (refused 7 nothing)
 
 -- 01, Numbers by the place of checking: asking a column at a floor
 abbrev pub asked : Column → ℕ → Said Working
@@ -34,4 +34,4 @@ asked c f = askedOf (c .member) (linesOf c) f
 -- 01, Where each language form belongs: the number and the values of each case of what asking gives
 unfoldable pub saidWorking : Asked → Said Working
 saidWorking (asked-variants.Gives w) = gives w
-saidWorking (asked-variants.Refused n) = refused n
+saidWorking (asked-variants.Refused n) = refused n nothing

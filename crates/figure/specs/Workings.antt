@@ -10,7 +10,7 @@ use Rattle.figure.specs.Asked.{asked}
 -- 01, Member, line, floor: n, X and the figure as three numbers. No part of the paper: zeros where no accepted line has the floor
 unfoldable pub workingNumbers : Said Working → List ℕ
 workingNumbers (gives w) = w .floors ∷ (w .influence .0 ∷ (w .figure ∷ []))
-workingNumbers (refused n) = 0 ∷ (0 ∷ (0 ∷ []))
+workingNumbers (refused n _) = 0 ∷ (0 ∷ (0 ∷ []))
 
 -- 01, Numbers by the place of checking: asking at each floor from 1 to f
 unfoldable pub workingsOf : Column → ℕ → List ℕ

@@ -2,7 +2,7 @@
 ghost use mathlib.Core.Path.{_≡_};
 ghost use mathlib.Core.Bool.{true};
 ghost use Prim.Native.Nat.{_≤_};
-ghost use Rattle.member.specs.Numbers.{between};
+ghost use Rattle.member.specs.Between.{between};
 ghost use Rattle.reduction.specs.Share.{otherTwentieths};
 ghost use Rattle.reduction.specs.Scale.{scaleOf};
 ghost use Rattle.column.specs.Line.{unpacked};

@@ -1,12 +1,12 @@
 -- Laws of choices and sums over a list, and of what holds of each element.
 -- Assumes nothing.
-use mathlib.Core.Path.{_≡_, refl}
+use mathlib.Core.Path.{_≡_, refl, ap}
 use mathlib.Core.Bool.{Bool, true, false, cond}
 use mathlib.Core.List.{List, [], _∷_, _++_}
-use Prim.Native.Nat.{ℕ, suc, _+_, _*_, _≤_}
+use Prim.Native.Nat.{ℕ, zero, suc, _+_, _*_, _≤_}
 use native.Mathlib.Nat.{zero-add, mul-suc}
 use native.Mathlib.Omega.{arith}
-use lib.ListN.{length}
+use lib.ListN.{length, getD, set, replicate}
 use Rattle.lists.specs.Lists.{All, none, more, keep, total}
 
 module _ {A : Type 0} where
@@ -87,6 +87,35 @@ module _ {A : Type 0} where
   pub all-more : {P : A → Type 0} {xs : List A} {x : A} → All P xs → P x → All P (xs ++ (x ∷ []))
   all-more none p = more p none
   all-more (more q h) p = more q (all-more h p)
+
+  -- and of each with that one at a place
+  pub all-set : {P : A → Type 0} {xs : List A} (k : ℕ) (x : A) → P x → All P xs → All P (set xs k x)
+  all-set k x p none = none
+  all-set zero x p (more q h) = more p h
+  all-set (suc k) x p (more q h) = more q (all-set k x p h)
+
+  -- what holds of one element holds of each of a list of it
+  pub all-same : {P : A → Type 0} (x : A) → P x → (n : ℕ) → All P (replicate n x)
+  all-same x p zero = none
+  all-same x p (suc n) = more p (all-same x p n)
+
+  -- what holds of each element, and of what is given where there is none, holds at each place
+  pub all-at : {P : A → Type 0} {xs : List A} (x : A) → P x → All P xs → (k : ℕ) → P (getD xs k x)
+  all-at x p none k = p
+  all-at x p (more q h) zero = q
+  all-at x p (more q h) (suc k) = all-at x p h k
+
+  -- the list of what a function has at the places from 0 on, so many
+  abbrev pub places : ℕ → (ℕ → A) → List A
+  places zero f = []
+  places (suc n) f = f 0 ∷ places n (λ k. f (suc k))
+
+  -- a list is that of its elements at their places
+  pub by-places : (n : ℕ) (xs : List A) (x : A) → length xs ≡ n → xs ≡ places n (λ k. getD xs k x)
+  by-places zero [] x h = refl
+  by-places zero (y ∷ xs) x h = absurd (omega arith)
+  by-places (suc n) [] x h = absurd (omega arith)
+  by-places (suc n) (y ∷ xs) x h = ap (λ (l : List A). y ∷ l) (by-places n xs x (omega arith))
 
   -- what follows for each element holds of each
   pub all-so : {P Q : A → Type 0} → ((x : A) → P x → Q x) → {xs : List A} → All P xs → All Q xs

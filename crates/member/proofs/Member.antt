@@ -13,7 +13,7 @@ use Rattle.refusal.specs.declared.Answer.{Answer}
 use Rattle.refusal.specs.declared.Answer.the-variants.{Gives, Refused}
 use Rattle.refusal.specs.Said.{said, gives}
 use Rattle.refusal.proofs.Said.{gives-it, gives-not-refused}
-use Rattle.member.specs.Numbers.{between}
+use Rattle.member.specs.Between.{between}
 use Rattle.member.specs.Member.{table4·2, tableFactor, factorOf}
 
 -- a code 1 to 12 has its factor

@@ -5,7 +5,7 @@ use mathlib.Core.Bool.{Bool, true, false, not, and-eq-true-iff}
 use Prim.Native.Nat.{ℕ, _≤_}
 use borrow.Author.Tests.{leb-true, le-leb, not-true, not-false}
 use lib.Dec.{leb}
-use Rattle.member.specs.Numbers.{between}
+use Rattle.member.specs.Between.{between}
 
 -- a call b of the test t, and the branch on it that was taken: `if !b` was left, or taken
 pub passed : {b t : Bool} → b ≡ t → not b ≡ false → t ≡ true

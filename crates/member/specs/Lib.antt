@@ -1,4 +1,4 @@
 -- The definitions of a member and its lines; paper 01 in its order.
-pub mod Numbers
+pub mod Between
 pub mod Member
 pub mod Line

@@ -4,8 +4,8 @@ use mathlib.Core.Bool.{cond}
 use mathlib.Core.List.{List, [], _∷_}
 use Prim.Native.Nat.{ℕ, _-_}
 use lib.ListN.{getD}
-use Rattle.refusal.specs.Said.{Said, gives, refused}
-use Rattle.member.specs.Numbers.{between}
+use Rattle.refusal.specs.Said.{Said, gives, refused, nothing}
+use Rattle.member.specs.Between.{between}
 
 -- 01, Member, line, floor: Table 4.2, the column K, a line a code from 1 to 12
 unfoldable pub table4·2 : List ℕ
@@ -30,4 +30,4 @@ tableFactor code = getD table4·2 (code - 1) 0
 
 -- 01, Member, line, floor: K; the refusal 1 where the code is not 1 to 12
 unfoldable pub factorOf : ℕ → Said ℕ
-factorOf code = cond (between 1 12 code) (gives (tableFactor code)) (refused 1)
+factorOf code = cond (between 1 12 code) (gives (tableFactor code)) (refused 1 nothing)

@@ -1,4 +1,4 @@
--- Laws of numbers, of values and of one effect.
-pub mod Numbers
+-- Laws of sizes, of values and of one effect.
+pub mod Word
 pub mod Values
 pub mod Limits

@@ -1,15 +1,17 @@
--- From the value of a double to the effect, and what an effect that is given keeps. Assumes nothing.
+-- From the value of a double to what is handed on and to the effect, and what an effect that is given keeps. Assumes nothing.
 use mathlib.Core.Path.{_≡_, refl, sym, ap, _∙_, subst}
 use mathlib.Core.Bool.{Bool, true, false, cond}
-use Prim.Native.Nat.{ℕ, _≤_, _<_}
+use Prim.Native.Nat.{ℕ, _^_, _≤_, _<_}
 use native.Mathlib.Omega.{arith}
-use lib.Dec.{T, leb, leb→le}
+use lib.Dec.{T, leb, ltb, leb→le}
 use lib.IntN.{ℤ, natAbs}
 use lib.Ieee.{Float}
-use borrow.Author.Tests.{le-leb, lt-leb}
-use Rattle.refusal.specs.Told.{gives, refused}
-use Rattle.newtons.specs.Effect.{Value, whole, notWhole, signed, valueOf, limit, limited, effectOf}
-use Rattle.newtons.proofs.Numbers.{size-neg}
+use borrow.Author.Tests.{le-leb, lt-leb, lt-ltb, le-ltb, ltb-false}
+use Rattle.refusal.specs.Said.{Told, gives, refused}
+use Rattle.newtons.specs.declared.Held.{Held}
+use Rattle.newtons.specs.declared.Held.the-variants as H
+use Rattle.newtons.specs.Effect.{Value, whole, notWhole, signed, valueOf, heldOf, limit, within, limited, effectOf}
+use Rattle.newtons.proofs.Word.{size-neg}
 use Rattle.newtons.proofs.Values.{Is}
 
 signed-size : (s : Bool) (n : ℕ) → natAbs (signed s n) ≡ n
@@ -17,13 +19,26 @@ unfolding signed
 signed-size true n = size-neg n
 signed-size false n = refl
 
-pub effect-not-whole : {x : Float} → valueOf x ≡ notWhole → effectOf x ≡ refused 8 x
-unfolding effectOf limited
-effect-not-whole {x} h = ap (limited x) h
+-- ---- from the value to what is handed on
 
-pub effect-beyond : {x : Float} {s : Bool} {n : ℕ} → Is x s n → limit < n → effectOf x ≡ refused 9 x
-unfolding effectOf limited
-effect-beyond {x} {s} {n} h l = ap (limited x) (h .is) ∙ simp (signed-size s n, lt-leb n limit l)
+pub held-none : {v : Value} → v ≡ notWhole → heldOf v ≡ H.NotWhole
+unfolding heldOf
+held-none h = ap heldOf h
+
+pub held-large : {x : Float} {s : Bool} {n : ℕ} → Is x s n → 2 ^ 53 ≤ n → heldOf (valueOf x) ≡ H.Large
+unfolding heldOf
+held-large {x} {s} {n} h l = ap heldOf (h .is) ∙ simp (signed-size s n, le-ltb n (2 ^ 53) l)
+
+pub held-whole : {v : Value} {z : ℤ} → v ≡ whole z → natAbs z < 2 ^ 53 → heldOf v ≡ H.Whole z
+unfolding heldOf
+held-whole {v} {z} h l = ap heldOf h ∙ simp (lt-ltb (natAbs z) (2 ^ 53) l)
+
+-- of sign s and size n, where the sign is told by a test
+pub held-signed : {x : Float} {s : Bool} {n : ℕ} → Is x s n → n < 2 ^ 53 → (b : Bool) → s ≡ b → heldOf (valueOf x) ≡ H.Whole (signed b n)
+held-signed {x} {s} {n} h l b e =
+    held-whole (h .is ∙ ap (λ (t : Bool). whole (signed t n)) e) (subst (λ (k : ℕ). k < 2 ^ 53) (sym (signed-size b n)) l)
+
+-- ---- and from there to the effect
 
 pub effect-whole : (x : Float) {z : ℤ} → valueOf x ≡ whole z → natAbs z ≤ limit → effectOf x ≡ gives z
 unfolding effectOf limited
@@ -42,7 +57,20 @@ effect-within x z h = go (valueOf x) h
     go (whole y) e = pass y (leb (natAbs y) limit) (leb→le (natAbs y) limit) e
     go notWhole e = let q : _≡_ {A = ℕ} 0 1 = cc in omega arith
 
--- a whole value of sign s and size n within the limit, where the sign is told by a test
-pub effect-signed : {x : Float} {s : Bool} {n : ℕ} → Is x s n → n ≤ limit → (b : Bool) → s ≡ b → effectOf x ≡ gives (signed b n)
-effect-signed {x} {s} {n} h l b e =
-    effect-whole x (h .is ∙ ap (λ (t : Bool). whole (signed t n)) e) (subst (λ (k : ℕ). k ≤ limit) (sym (signed-size b n)) l)
+-- 8 and 9 told of what is handed on: a large number is beyond the limit
+unfoldable pub limitedHeld : Float → Held → Told Float ℤ
+limitedHeld x (H.Whole z) = cond (within z) (gives z) (refused 9 x)
+limitedHeld x H.Large = refused 9 x
+limitedHeld x H.NotWhole = refused 8 x
+
+pub effect-held : (x : Float) → effectOf x ≡ limitedHeld x (heldOf (valueOf x))
+unfolding effectOf limited limitedHeld heldOf
+effect-held x = go (valueOf x)
+  where
+    test : (z : ℤ) (t : Bool) → ltb (natAbs z) (2 ^ 53) ≡ t → cond (within z) (gives z) (refused 9 x) ≡ limitedHeld x (cond t (H.Whole z) H.Large)
+    test z true e = refl
+    test z false e = let h = ltb-false (natAbs z) (2 ^ 53) e in rw (lt-leb (natAbs z) limit (omega arith))
+
+    go : (v : Value) → limited x v ≡ limitedHeld x (heldOf v)
+    go (whole z) = test z (ltb (natAbs z) (2 ^ 53)) refl
+    go notWhole = refl

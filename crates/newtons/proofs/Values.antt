@@ -15,7 +15,7 @@ use lib.Ieee.Back.{round-whole}
 use lib.Ieee.Compare.{differs-from-itself}
 use lib.Ieee.Exact.{HasValue, odd-sign}
 use borrow.Author.Tests.{eq-eqb, ne-eqb}
-use Rattle.newtons.specs.Effect.{whole, notWhole, signed, fraction, valueOf, limit}
+use Rattle.newtons.specs.Effect.{whole, notWhole, signed, fraction, valueOf}
 
 -- ---- equal fractions have one value
 
@@ -178,9 +178,9 @@ large-value {x} {s} {e = suc k} {t} f p h =
     let a = (2 ^ 52 + t) * 2 ^ (suc k - 1075) in
     record { is = value-is x s a 1 (lit< tt) (subst (λ (y : Float). HasValue y s a 1) (f .is) (large s k t p h)) ∙ simp (mod-one a, div-one a) }
 
--- from 2^52 on a whole double is beyond the limit
-pub large-beyond : (t k : ℕ) → limit < (2 ^ 52 + t) * 2 ^ k
-large-beyond t k = lt-of-lt-of-le (lit< tt) (mul-le-mul {n₁ = 2 ^ 52} {m₁ = 1} (from t) (pow-pos k))
+-- past the exponent field 1075 a double is at least 2^53 in size
+pub large-size : (t k : ℕ) → 0 < k → 2 ^ 53 ≤ (2 ^ 52 + t) * 2 ^ k
+large-size t k h = mul-le-mul {n₁ = 2 ^ 52} {m₁ = 2} (from t) (pow-mono {i = 1} h)
   where
     from : (t : ℕ) → 2 ^ 52 ≤ 2 ^ 52 + t
     from t = omega arith

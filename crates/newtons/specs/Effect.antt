@@ -3,15 +3,17 @@
 -- 2^e is the fraction up e / down e, so the size of the double is m × up e / down e.
 -- Assumes nothing.
 use mathlib.Core.Bool.{Bool, true, false, cond}
-use Prim.Native.Nat.{ℕ, _*_, _/_, _%_}
-use lib.Dec.{leb, eqb}
+use Prim.Native.Nat.{ℕ, _*_, _/_, _%_, _^_}
+use lib.Dec.{leb, ltb, eqb}
 use lib.IntN.{ℤ, pos, negℤ, natAbs}
 use lib.Ieee.{Float, nan, inf, fin, up, down}
 use Rattle.refusal.specs.Refusal.{numberOf}
 use Rattle.refusal.specs.declared.Refusal.the-variants.{EffectNotWhole, EffectOutOfRange}
+use Rattle.newtons.specs.declared.Held.{Held}
+use Rattle.newtons.specs.declared.Held.the-variants as H
 use Rattle.newtons.specs.declared.Effect.{Effect}
 use Rattle.newtons.specs.declared.Effect.the-variants.{Whole, NotWhole, Beyond}
-use Rattle.refusal.specs.Told.{Told, gives, refused}
+use Rattle.refusal.specs.Said.{Told, gives, refused}
 
 -- 01, Numbers by the place of checking: the value of a double, a whole number or not
 pub data Value : Type 0 where
@@ -32,6 +34,12 @@ unfoldable pub valueOf : Float → Value
 valueOf nan = notWhole
 valueOf (inf s) = notWhole
 valueOf (fin s m e) = fraction s (m * up e) (down e)
+
+-- 01, Numbers by the place of checking: "not a whole number", told of the value alone. As 64 bits can hold it: a whole number
+-- below 2^53 in size; that it is whole and not below, from where on every double is whole and few fit; or that it is not whole
+unfoldable pub heldOf : Value → Held
+heldOf (whole z) = cond (ltb (natAbs z) (2 ^ 53)) (H.Whole z) H.Large
+heldOf notWhole = H.NotWhole
 
 -- 01, Effects and the 25 combinations: what is held against "±1,000,000,000,000": how large a number is, whatever its sign
 abbrev pub magnitudeOf : ℤ → ℕ

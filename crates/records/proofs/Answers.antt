@@ -9,8 +9,7 @@ use native.Mathlib.Omega.{arith}
 use lib.ListN.{length}
 use lib.Seq.{append-snoc}
 use Rattle.lists.proofs.Tests.{cases}
-use Rattle.refusal.specs.Said as said
-use Rattle.refusal.specs.Told.{Told, gives, refused}
+use Rattle.refusal.specs.Said.{Told, gives, refused, nothing}
 use Rattle.refusal.proofs.Said.{by-number, not-zero}
 use Rattle.column.specs.declared.Line.{Line}
 use Rattle.column.specs.declared.Member.{Member}
@@ -20,12 +19,12 @@ use Rattle.figure.specs.Carried.{hasFloor}
 use Rattle.column.specs.Accepted.{entryNumber, accepted}
 use Rattle.column.specs.Column.{columnOf, openedOf, enteredOf, after}
 use Rattle.figure.specs.Asked.{workingOf, askedOf}
-use Rattle.demand3.specs.Demand3.{Claim}
+use Rattle.error_bound.specs.Claim.{Claim}
 use Rattle.column.specs.Entering.{NoneRefused, none, more, Stops}
 use Rattle.column.proofs.Columns.{column-lines}
 use Rattle.column.proofs.Reach.{Holdable, holdable-none, holdable-more, entered-accepted, opened-column}
 use Rattle.column.proofs.Entering.{every-list}
-use Rattle.demand3.proofs.Demand3.{claimed}
+use Rattle.error_bound.proofs.Claim.{claimed}
 use Rattle.records.specs.Listed.{atPlace, listedFrom, listedOf, Bounds}
 use Rattle.records.specs.AsEntered.{AtOpening, AtFirst, AsEntered, FigureOfAll}
 
@@ -146,7 +145,7 @@ figure-of-all m lines f w given =
 figure-floor : (m : Member) (ls : List Line) (f : ℕ) (w : Working) → atPlace 0 (askedOf m ls f) ≡ gives w → hasFloor f ls ≡ true
 unfolding atPlace askedOf
 figure-floor m ls f w =
-    cases (λ (b : Bool). atPlace 0 (cond b (said.gives (workingOf m ls f)) (said.refused 7)) ≡ gives w → b ≡ true) (hasFloor f ls) (λ e h. refl) (λ e h. no-figure refl h)
+    cases (λ (b : Bool). atPlace 0 (cond b (gives (workingOf m ls f)) (refused 7 nothing)) ≡ gives w → b ≡ true) (hasFloor f ls) (λ e h. refl) (λ e h. no-figure refl h)
 
 -- 01, Reduced load and figure: the figure is within the bounds, over the lines of the list
 pub listed-bounds : (m : Member) (lines : List Line) (f : ℕ) → Bounds m lines f (listedOf m lines f)

@@ -2,7 +2,7 @@
 -- Assumes nothing.
 use mathlib.Core.Path.{refl}
 use Rattle.lists.specs.Lists.{All, none, more, keep, some, total}
-use Rattle.reduction.specs.Numbers.{leastFrom}
+use Rattle.reduction.specs.Least.{leastFrom}
 use Rattle.member.specs.Member.{table4·2, tableFactor}
 use Rattle.member.specs.Line.{isFormula}
 use Rattle.reduction.specs.Share.{oneFloor, rootAtLeast, rootAtMost, leastTwentieths, formulaShare, otherTwentieths, shareOf}
@@ -13,7 +13,7 @@ use Rattle.column.specs.Accepted.{lastFloor, firstCondition, entryNumber}
 use Rattle.column.specs.Column.{openedOf}
 use Rattle.figure.specs.Asked.{workingOf, askedOf}
 use Rattle.column.specs.Line.{entriesOf}
-use Rattle.demand3.specs.Examples.{heavyAbove, sampleSheet}
+use Rattle.error_bound.specs.Examples.{heavyAbove, sampleSheet}
 use Rattle.records.specs.Listed.{atPlace, listedFrom, listedOf}
 use Rattle.records.specs.Examples.{mistyped, examples, Says}
 

@@ -6,7 +6,7 @@ use mathlib.Core.List.{List, [], _∷_, _++_}
 use Prim.Native.Nat.{ℕ, _+_, _≤_}
 use lib.Dec.{eqb}
 use lib.ListN.{length}
-use Rattle.refusal.specs.Told.{Told, refused}
+use Rattle.refusal.specs.Said.{Told, refused}
 use Rattle.refusal.proofs.Said.{by-number, not-zero}
 use Rattle.member.proofs.Tests.{limits}
 use Rattle.column.specs.declared.Line.{Line}

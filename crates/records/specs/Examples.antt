@@ -3,11 +3,11 @@
 use mathlib.Core.Path.{_≡_}
 use mathlib.Core.List.{List, [], _∷_}
 use Prim.Native.Nat.{ℕ}
-use Rattle.refusal.specs.Told.{Told, gives, refused}
+use Rattle.refusal.specs.Said.{Told, gives, refused}
 use Rattle.figure.specs.declared.Working.{Working}
 use Rattle.column.specs.Column.{memberOf}
 use Rattle.column.specs.Line.{entriesOf}
-use Rattle.demand3.specs.Examples.{heavyAbove, sampleSheet}
+use Rattle.error_bound.specs.Examples.{heavyAbove, sampleSheet}
 use Rattle.records.specs.Listed.{listedOf}
 
 -- a member's code, its lines, four numbers a line, a floor, and the answer

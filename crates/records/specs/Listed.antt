@@ -6,8 +6,7 @@ use mathlib.Core.List.{List, [], _∷_, _++_}
 use Prim.Native.Nat.{ℕ, _+_}
 use lib.Dec.{eqb}
 use lib.ListN.{length}
-use Rattle.refusal.specs.Said as said
-use Rattle.refusal.specs.Told.{Told, gives, refused}
+use Rattle.refusal.specs.Said.{Told, gives, refused, Said}
 use Rattle.column.specs.declared.Line.{Line}
 use Rattle.column.specs.declared.Member.{Member}
 use Rattle.figure.specs.declared.Working.{Working}
@@ -15,14 +14,14 @@ use Rattle.figure.specs.Carried.{carried}
 use Rattle.column.specs.Accepted.{entryNumber}
 use Rattle.column.specs.Column.{openedOf}
 use Rattle.figure.specs.Asked.{askedOf}
-use Rattle.demand3.specs.Demand3.{Bounded}
+use Rattle.error_bound.specs.Claim.{Bounded}
 use Rattle.records.specs.declared.Listed.{Listed}
 use Rattle.records.specs.declared.Listed.the-variants.{Gives, Refused}
 
 -- 01, Member, line, floor: a refusal comes with a place
-unfoldable pub atPlace : {A : Type 0} → ℕ → said.Said A → Told ℕ A
-atPlace place (said.gives a) = gives a
-atPlace place (said.refused n) = refused n place
+unfoldable pub atPlace : {A : Type 0} → ℕ → Said A → Told ℕ A
+atPlace place (gives a) = gives a
+atPlace place (refused n _) = refused n place
 
 -- 01, Member, line, floor: the lines in order, each as entering it would check it, where these lines are accepted so far. The
 -- first refused line gives its number and its place, one more than the lines before it, which are all accepted; after the

@@ -9,7 +9,7 @@ use borrow.Author.Tests.{eqb-true, not-true}
 use Rattle.refusal.specs.Said.{Said, gives, refused}
 use Rattle.reduction.specs.declared.InfluenceArea.{InfluenceArea}
 use Rattle.reduction.specs.declared.share.Share.the-variants.{Root}
-use Rattle.reduction.specs.Numbers.{leastFrom}
+use Rattle.reduction.specs.Least.{leastFrom}
 use Rattle.lists.specs.Lists.{All, none, more}
 use Rattle.member.specs.Line.{isFormula}
 use Rattle.reduction.specs.Share.{dm², oneFloor, rootAtLeast, rootAtMost, leastTwentieths, formulaShare, otherTwentieths, shareOf}
@@ -19,12 +19,12 @@ use Rattle.reduction.specs.Figures.{at, any, uncapped, Row, row, figures
 -- an answer gives this number
 is : ℕ → Said ℕ → Bool
 is r (gives m) = eqb m r
-is r (refused n) = false
+is r (refused n _) = false
 
 is-true : (r : ℕ) (a : Said ℕ) → is r a ≡ true → a ≡ gives r
 unfolding is
 is-true r (gives m) e = ap gives (eqb-true m r e)
-is-true r (refused n) e = absurd (false≢true e)
+is-true r (refused n _) e = absurd (false≢true e)
 
 -- a line that the formula is not for has one reduced load at every influence area
 any-area : (load class n : ℕ) (x y : InfluenceArea) → isFormula load class ≡ false → reducedOf load class n x ≡ reducedOf load class n y

@@ -6,7 +6,7 @@ use mathlib.Core.Logic.{⊎-elim}
 use Prim.Native.Nat.{ℕ, zero, suc, _+_, _≤_, _<_}
 use native.Mathlib.Nat.{add-zero, add-suc, suc-add, eq-or-lt-of-le}
 use native.Mathlib.Omega.{arith}
-use Rattle.reduction.specs.Numbers.{leastFrom}
+use Rattle.reduction.specs.Least.{leastFrom}
 
 found-go : (p : ℕ → Bool) (k d : ℕ) (b : Bool) → p k ≡ b → p (leastFrom p (suc k) d) ≡ true
     → p (elim b [ true ↦ k | false ↦ leastFrom p (suc k) d ]) ≡ true

@@ -11,7 +11,7 @@ use Rattle.refusal.specs.Said.{gives}
 use Rattle.reduction.specs.declared.InfluenceArea.{InfluenceArea}
 use Rattle.reduction.specs.declared.share.Share.{Share}
 use Rattle.reduction.specs.declared.share.Share.the-variants.{Twentieths, Root}
-use Rattle.member.specs.Numbers.{between}
+use Rattle.member.specs.Between.{between}
 use Rattle.reduction.specs.Share.{leastTwentieths, formulaShare, shareOf, AtMostOne}
 use Rattle.reduction.specs.Reduced.{reaches, reduced, Least, reducedOf}
 use Rattle.reduction.proofs.Squares.{sq-le}

@@ -13,7 +13,7 @@ use borrow.Author.Tests.{leb-true, leb-false, le-leb}
 use Rattle.lists.proofs.Tests.{same-test}
 use Rattle.reduction.specs.declared.InfluenceArea.{InfluenceArea}
 use Rattle.reduction.specs.declared.share.Share.the-variants.{Twentieths, Root}
-use Rattle.reduction.specs.Numbers.{sq}
+use Rattle.reduction.specs.Least.{sq}
 use Rattle.reduction.specs.Share.{rootAtLeast, rootAtMost}
 use Rattle.reduction.specs.Reduced.{reaches}
 use Rattle.reduction.proofs.Squares.{sq-le, sq-le⁻¹, sq-mul, sq-five}

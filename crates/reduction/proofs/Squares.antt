@@ -6,7 +6,7 @@ use native.Mathlib.Nat.{mul-assoc, mul-comm, mul-add, mul-mul-mul-comm, mul-le-m
 use native.Mathlib.Nat.{lt-of-le-of-lt, lt-of-not-le, not-le-of-lt, le-of-lt}
 use native.Mathlib.Decide.{decLe}
 use native.Mathlib.Omega.{arith}
-use Rattle.reduction.specs.Numbers.{sq}
+use Rattle.reduction.specs.Least.{sq}
 
 pub sq-le : {a b : ℕ} → a ≤ b → sq a ≤ sq b
 sq-le h = mul-le-mul h h

@@ -5,7 +5,7 @@ use Rattle.reduction.specs.declared.InfluenceArea.{InfluenceArea}
 use Rattle.reduction.specs.declared.RootEstimate.{RootEstimate}
 use Rattle.reduction.specs.declared.share.Share.{Share}
 use Rattle.reduction.specs.declared.share.Share.the-variants.{Twentieths, Root}
-use Rattle.reduction.specs.Numbers.{sq}
+use Rattle.reduction.specs.Least.{sq}
 use Rattle.reduction.specs.Share.{formulaShare}
 
 -- about 914/(5 √X) in units of 2⁻²⁰, the root part of 4 × share: the highest of six chords of the curve

@@ -4,12 +4,12 @@ use mathlib.Core.Path.{_≡_}
 use mathlib.Core.Bool.{Bool, true, false, cond, _&&_}
 use Prim.Native.Nat.{ℕ, _*_, _-_, _<_}
 use lib.Dec.{leb}
-use Rattle.refusal.specs.Said.{Said, gives, refused}
+use Rattle.refusal.specs.Said.{Said, gives, refused, nothing}
 use Rattle.reduction.specs.declared.InfluenceArea.{InfluenceArea}
 use Rattle.reduction.specs.declared.share.Share.{Share}
 use Rattle.reduction.specs.declared.share.Share.the-variants.{Twentieths, Root}
-use Rattle.member.specs.Numbers.{between}
-use Rattle.reduction.specs.Numbers.{sq, leastFrom}
+use Rattle.member.specs.Between.{between}
+use Rattle.reduction.specs.Least.{sq, leastFrom}
 use Rattle.reduction.specs.Share.{shareOf}
 
 -- 01, Reduced load and figure: R is not below share × Lo; with the root, 4R ≥ Lo and 25 × X × (4R − Lo)² ≥ (914 × Lo)²
@@ -30,5 +30,5 @@ pub record Least (s : Share) (load r : ℕ) : Type 0 where
 unfoldable pub reducedOf : ℕ → ℕ → ℕ → InfluenceArea → Said ℕ
 reducedOf load class n x =
     cond (between 1 3 class)
-    (cond (between 1 50000 load) (gives (reduced (shareOf load class n x) load)) (refused 5))
-    (refused 4)
+    (cond (between 1 50000 load) (gives (reduced (shareOf load class n x) load)) (refused 5 nothing))
+    (refused 4 nothing)

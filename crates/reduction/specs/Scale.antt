@@ -6,7 +6,7 @@ use lib.Dec.{ltb}
 use Rattle.reduction.specs.declared.InfluenceArea.{InfluenceArea}
 use Rattle.reduction.specs.declared.share.Share.{Share}
 use Rattle.reduction.specs.declared.share.Share.the-variants.{Twentieths, Root}
-use Rattle.reduction.specs.Numbers.{sq, leastFrom}
+use Rattle.reduction.specs.Least.{sq, leastFrom}
 use Rattle.reduction.specs.Share.{formulaShare}
 
 -- 914/(5 √X), the root part of 4 × share, in units of 2⁻¹⁹, rounded down: the greatest s with 25 × X × s² ≤ (914 × 2¹⁹)². At

@@ -7,7 +7,7 @@ use lib.Dec.{leb, eqb}
 use Rattle.reduction.specs.declared.InfluenceArea.{InfluenceArea}
 use Rattle.reduction.specs.declared.share.Share.{Share}
 use Rattle.reduction.specs.declared.share.Share.the-variants.{Twentieths, Root}
-use Rattle.reduction.specs.Numbers.{sq}
+use Rattle.reduction.specs.Least.{sq}
 use Rattle.member.specs.Line.{isFormula}
 
 -- 01, Member, line, floor: an influence area X, "in dm²"

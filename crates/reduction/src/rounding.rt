@@ -4,7 +4,7 @@ ghost use Prim.Native.Nat.{_*_, _-_, _^_, max, _≤_};
 ghost use Rattle.reduction.specs.declared.share.Share.the-variants.{Twentieths, Root};
 ghost use Rattle.reduction.specs.Reduced.{reaches, reduced};
 ghost use Rattle.reduction.specs.Estimate.{newton, highestChord, estimate};
-ghost use Rattle.reduction.specs.Fit.{Fit};
+ghost use Rattle.reduction.specs.ShareBounds.{Fit};
 use crate::InfluenceArea;
 use crate::RootEstimate;
 use crate::share::Share;

@@ -14,7 +14,7 @@ use Rattle.refusal.specs.declared.Refusal.the-variants.{NoLineAtFloor, E
 use Rattle.refusal.specs.declared.Answer.{Answer}
 use Rattle.refusal.specs.declared.Answer.the-variants.{Gives, Refused}
 use Rattle.refusal.specs.Refusal.{numberOf}
-use Rattle.refusal.specs.Said.{Said, gives, refused, said}
+use Rattle.refusal.specs.Said.{Said, gives, refused, said, nothing}
 
 refusals : List Refusal
 refusals =
@@ -37,7 +37,7 @@ ofNumber n = getD refusals (n - 1) UnknownCode
 
 answerOf : Said ℕ → Answer
 answerOf (gives n) = Gives n
-answerOf (refused n) = Refused (ofNumber n)
+answerOf (refused n _) = Refused (ofNumber n)
 
 of-number : (r : Refusal) → ofNumber (numberOf r) ≡ r
 unfolding ofNumber refusals numberOf
@@ -102,6 +102,6 @@ gives-it {a} {n} {k} p q =
 pub gives-not-refused : {a : Answer} {r : Refusal} {k : ℕ} → a ≡ Refused r → said a ≡ gives k → ⊥
 unfolding said
 gives-not-refused {a} {r} {k} p q =
-    let e : refused (numberOf r) ≡ gives k = ap said (sym p) ∙ q in
+    let e : refused (numberOf r) nothing ≡ gives k = ap said (sym p) ∙ q in
     let z : _≡_ {A = ℕ} 0 1 = cc in
     omega arith

@@ -1,4 +1,3 @@
 -- The number of each refusal, and what an answer says.
 pub mod Refusal
 pub mod Said
-pub mod Told

@@ -1,16 +1,25 @@
--- What an answer says in paper 01's terms: the value it gives, or the number of a refusal.
+-- What an answer says in paper 01's terms: the value it gives, or the number of a refusal and what comes back with it.
 -- Assumes nothing.
 use Prim.Native.Nat.{ℕ}
 use Rattle.refusal.specs.declared.Answer.{Answer}
 use Rattle.refusal.specs.declared.Answer.the-variants.{Gives, Refused}
 use Rattle.refusal.specs.Refusal.{numberOf}
 
--- 01, Numbers by the place of checking: what is given, or the number of the first condition that holds
-pub data Said (A : Type 0) : Type 0 where
-  gives : A → Said A
-  refused : ℕ → Said A
+-- 01, Numbers by the place of checking: what is given, or the number of the first condition that holds, with what comes back:
+-- 01, Effects and the 25 combinations: "A refused effect comes back with the double as it came"; and
+-- 01, Member, line, floor: "the number and place of the first one"
+pub data Told (Back A : Type 0) : Type 0 where
+  gives : A → Told Back A
+  refused : ℕ → Back → Told Back A
+
+-- the same where nothing comes back but the number
+abbrev pub Said : Type 0 → Type 0
+Said A = Told (Unit {0}) A
+
+abbrev pub nothing : Unit {0}
+nothing = tt
 
 -- 01, Where each language form belongs: the number and the value of each case of an answer
 unfoldable pub said : Answer → Said ℕ
 said (Gives n) = gives n
-said (Refused r) = refused (numberOf r)
+said (Refused r) = refused (numberOf r) nothing

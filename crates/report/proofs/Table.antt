@@ -10,7 +10,7 @@ use native.Mathlib.Omega.{arith}
 use lib.ListN.{length, getD, List·getD-append}
 use lib.Seq.{getD-append-add}
 use borrow.Author.Tests.{ne-eqb}
-use Rattle.refusal.specs.Said.{Said, gives, refused}
+use Rattle.refusal.specs.Said.{Said, gives, refused, nothing}
 use Rattle.lists.specs.Lists.{some}
 use Rattle.column.specs.declared.Line.{Line}
 use Rattle.column.specs.declared.Column.{Column}
@@ -66,7 +66,7 @@ asked-counted : (c : Column) (f : ℕ) (w : Working) → asked c f ≡ gives w �
 unfolding askedOf workingOf
 asked-counted c f w e = go (hasFloor f (linesOf c)) refl e
   where
-    go : (b : Bool) → hasFloor f (linesOf c) ≡ b → cond b (gives (workingOf (c .member) (linesOf c) f)) (refused 7) ≡ gives w → 1 ≤ w .floors
+    go : (b : Bool) → hasFloor f (linesOf c) ≡ b → cond b (gives (workingOf (c .member) (linesOf c) f)) (refused 7 nothing) ≡ gives w → 1 ≤ w .floors
     go true h e = let q : workingOf (c .member) (linesOf c) f ≡ w = cc in rw (sym q) (counted f (linesOf c) h)
     go false h e = let z : _≡_ {A = ℕ} 0 1 = cc in absurd (omega arith)
 
@@ -77,7 +77,7 @@ line-is c f = go (asked c f) refl
   where
     go : (s : Said Working) → asked c f ≡ s → lineOf f (numbersWorking s) ≡ floorLineOf f s
     go (gives w) e = rw (ne-eqb (w .floors) 0 (λ z. omega (arith, asked-counted c f w e)))
-    go (refused n) e = refl
+    go (refused n _) e = refl
 
 lines-to : (c : Column) (f : ℕ) → f ≤ 64 → tableLines (workingsOf c 64) f ≡ floorLines c f
 unfolding tableLines floorLines

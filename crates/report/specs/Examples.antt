@@ -1,16 +1,16 @@
 -- Paper 01, "The sheet": the sample sheet and what takedown prints for it, "in whole"; and refused sheets.
 -- Assumes nothing.
 use mathlib.Core.Path.{_≡_}
-use mathlib.Core.List.{List, [], _∷_, _++_}
+use mathlib.Core.List.{List, [], _∷_, map}
 use Prim.Native.Nat.{ℕ}
 use Prim.Native.String.{String}
-use Rattle.text.specs.Text.{bytesOf, ended}
+use Rattle.text.specs.Text.{bytesOf}
+use Rattle.text.specs.Lines.{textOf}
 use Rattle.report.specs.Report.{reportOf}
 
 -- a text of these lines
-unfoldable pub linesText : List String → List ℕ
-linesText [] = []
-linesText (l ∷ ls) = ended (bytesOf l) ++ linesText ls
+abbrev pub linesText : List String → List ℕ
+linesText ls = textOf (map bytesOf ls)
 
 -- a sheet, and what is printed for it
 pub data Example : Type 0 where

@@ -1,11 +1,13 @@
 -- Paper 01, "The sheet": what the program takedown prints.
 -- Assumes nothing.
 use mathlib.Core.Bool.{cond}
-use mathlib.Core.List.{List, [], _++_}
+use mathlib.Core.List.{List, [], _∷_, _++_}
 use Prim.Native.Nat.{ℕ, zero, suc, _+_, _/_}
 use lib.Dec.{eqb}
-use lib.IntN.{pos}
-use Rattle.text.specs.Text.{bytesOf, ended, decimal, signedDecimal}
+use lib.IntN.{ℤ, pos}
+use lib.ListN.{getD}
+use Rattle.text.specs.Text.{bytesOf, joined, decimal, signedParts}
+use Rattle.text.specs.Lines.{newline}
 use Rattle.refusal.specs.Said.{Said, gives, refused}
 use Rattle.column.specs.declared.Column.{Column}
 use Rattle.figure.specs.declared.Working.{Working}
@@ -18,27 +20,31 @@ use Rattle.effects.specs.Check.{newtonsOf}
 use Rattle.combination.specs.declared.GoverningRow.{GoverningRow}
 use Rattle.combination.specs.declared.Governing.{Governing}
 use Rattle.combination.specs.Combine.{governing}
-use Rattle.sheet.specs.declared.SheetEffects.{SheetEffects}
 use Rattle.sheet.specs.declared.Sheet.{Sheet}
 use Rattle.sheet.specs.declared.Reading.{Reading}
 use Rattle.sheet.specs.Sheet.{readSheet}
 
--- 01, The sheet: "floors is n, influence is X"; the line of a floor with this working
-unfoldable pub floorLine : ℕ → Working → List ℕ
+-- 01, The sheet: "floors is n, influence is X"; the texts of the line of a floor with this working
+unfoldable pub floorLine : ℕ → Working → List (List ℕ)
 floorLine f w =
-    ended
-    ((bytesOf "floor=" ++ decimal f)
-    ++ (bytesOf " floors=" ++ decimal (w .floors))
-    ++ (bytesOf " influence=" ++ decimal (w .influence .0))
-    ++ (bytesOf " figure=" ++ decimal (w .figure)))
+    bytesOf "floor="
+    ∷ decimal f
+    ∷ bytesOf " floors="
+    ∷ decimal (w .floors)
+    ∷ bytesOf " influence="
+    ∷ decimal (w .influence .0)
+    ∷ bytesOf " figure="
+    ∷ decimal (w .figure)
+    ∷ (newline ∷ [])
+    ∷ []
 
 -- 01, The sheet: a floor that a line has is printed, and no other
-unfoldable pub floorLineOf : ℕ → Said Working → List ℕ
+unfoldable pub floorLineOf : ℕ → Said Working → List (List ℕ)
 floorLineOf f (gives w) = floorLine f w
-floorLineOf f (refused n) = []
+floorLineOf f (refused n _) = []
 
 -- 01, The sheet: "Each distinct floor has one line, top first"; the floors from 1 to f
-unfoldable pub floorLines : Column → ℕ → List ℕ
+unfoldable pub floorLines : Column → ℕ → List (List ℕ)
 floorLines c zero = []
 floorLines c (suc f) = floorLines c f ++ floorLineOf (suc f) (asked c (suc f))
 
@@ -47,42 +53,35 @@ unfoldable pub liveOf : Column → ℕ
 liveOf c = (lowestFigure (c .member) (linesOf c) + 99) / 100
 
 -- 01, Effects and the 25 combinations: the six effects of a sheet, with the live effect among them
-unfoldable pub effectsWith : SheetEffects → ℕ → Newtons
-effectsWith e live =
-    record {
-      dead = e .dead;
-      live = pos live;
-      roof = e .roof;
-      snow = e .snow;
-      rain = e .rain;
-      wind = e .wind;
-      quake = e .quake;
-    }
+unfoldable pub effectsWith : List ℤ → ℕ → Newtons
+effectsWith es live =
+    let at : ℕ → ℤ = λ k. getD es k (pos 0) in
+    record { dead = at 0; live = pos live; roof = at 1; snow = at 2; rain = at 3; wind = at 4; quake = at 5 }
 
 -- 01, Effects and the 25 combinations: the seven effects of a sheet
 unfoldable pub effectsOf : Sheet → Newtons
 effectsOf s = effectsWith (s .effects) (liveOf (s .column))
 
 -- 01, The sheet: "max and min are tenths"; a governing sum and its row
-unfoldable pub governingLine : List ℕ → GoverningRow → List ℕ
-governingLine key g = ended ((key ++ signedDecimal (g .tenths)) ++ (bytesOf " row=" ++ decimal (g .row)))
+unfoldable pub governingLine : List ℕ → GoverningRow → List (List ℕ)
+governingLine key g = key ∷ (signedParts (g .tenths) ++ (bytesOf " row=" ∷ decimal (g .row) ∷ (newline ∷ []) ∷ []))
 
 -- 01, The sheet: the line of max, then the line of min
-unfoldable pub governingLines : Governing → List ℕ
+unfoldable pub governingLines : Governing → List (List ℕ)
 governingLines g = governingLine (bytesOf "max=") (g .greatest) ++ governingLine (bytesOf "min=") (g .least)
 
 -- 01, The sheet: what is printed of a sheet that is read; "without floors only the last two lines"
-unfoldable pub takedownOf : Sheet → List ℕ
+unfoldable pub takedownOf : Sheet → List (List ℕ)
 takedownOf s = floorLines (s .column) lowestFloor ++ governingLines (governing (newtonsOf (effectsOf s)))
 
 -- 01, The sheet: "A refused sheet prints only `refused=N line=K`"
-unfoldable pub refusalLine : ℕ → ℕ → List ℕ
-refusalLine n k = ended ((bytesOf "refused=" ++ decimal n) ++ (bytesOf " line=" ++ decimal k))
+unfoldable pub refusalLine : ℕ → ℕ → List (List ℕ)
+refusalLine n k = bytesOf "refused=" ∷ decimal n ∷ bytesOf " line=" ∷ decimal k ∷ (newline ∷ []) ∷ []
 
 -- 01, The sheet: all that takedown prints of what reading gave
-unfoldable pub printed : Reading → List ℕ
+unfoldable pub printed : Reading → List (List ℕ)
 printed r = cond (eqb (r .number) 0) (takedownOf (r .sheet)) (refusalLine (r .number) (r .line))
 
 -- 01, The sheet: all that takedown prints from a text
 unfoldable pub reportOf : List ℕ → List ℕ
-reportOf text = printed (readSheet text)
+reportOf text = joined (printed (readSheet text))

@@ -13,7 +13,7 @@ abbrev pub workingFrom : ℕ → ℕ → ℕ → Working
 workingFrom n x figure = record { floors = n; influence = record { 0 = x }; figure = figure }
 
 -- the line of a floor; none where its n is 0
-unfoldable pub lineOf : ℕ → Working → List ℕ
+unfoldable pub lineOf : ℕ → Working → List (List ℕ)
 lineOf f w = cond (eqb (w .floors) 0) [] (floorLine f w)
 
 -- the working of the floor after f floors
@@ -21,6 +21,6 @@ abbrev pub workingAfter : List ℕ → ℕ → Working
 workingAfter table f = workingFrom (getD table (3 * f) 0) (getD table (3 * f + 1) 0) (getD table (3 * f + 2) 0)
 
 -- the lines of the floors from 1 to f
-unfoldable pub tableLines : List ℕ → ℕ → List ℕ
+unfoldable pub tableLines : List ℕ → ℕ → List (List ℕ)
 tableLines table zero = []
 tableLines table (suc f) = tableLines table f ++ lineOf (suc f) (workingAfter table f)

@@ -1,29 +1,30 @@
 -- Reading keeps the limits: line by line, and so for a whole sheet.
 -- Assumes nothing.
-use mathlib.Core.Path.{_≡_, refl}
+use mathlib.Core.Path.{_≡_, refl, _∙_, subst, subst⁻¹}
 use mathlib.Core.Bool.{Bool, true, false, cond, false≢true}
 use mathlib.Core.List.{List, [], _∷_}
-use Prim.Native.Nat.{ℕ, _+_, _≤_}
+use Prim.Native.Nat.{ℕ, _+_, _≤_, _<_}
 use native.Mathlib.Omega.{arith}
 use lib.Dec.{leb, ltb, eqb}
-use lib.IntN.{ℤ}
-use lib.ListN.{length}
+use lib.IntN.{ℤ, pos}
+use lib.ListN.{length, getD, length-set}
 use borrow.Author.Tests.{leb-true, eqb-true, eqb-false, ne-eqb}
-use Rattle.column.specs.Column.{memberOf, Reached}
+use Rattle.lists.proofs.Lists.{all-set, all-same, all-at}
+use Rattle.column.specs.Column.{memberOf, unopened, Reached}
 use Rattle.column.proofs.Reach.{reached-opened, reached-entered}
 use Rattle.newtons.specs.Effect.{magnitudeOf, limit}
-use Rattle.form.specs.declared.Due.{Due}
-use Rattle.form.specs.declared.Due.the-variants as D
-use Rattle.form.specs.declared.Form.{Form}
-use Rattle.form.specs.declared.Form.the-variants as F
-use Rattle.form.specs.Form.{formOf}
-use Rattle.form.proofs.Only.{member-first}
-use Rattle.sheet.specs.declared.SheetEffects.{SheetEffects}
+use Rattle.sheet_lines.specs.declared.Due.{Due}
+use Rattle.sheet_lines.specs.declared.Due.the-variants as D
+use Rattle.sheet_lines.specs.declared.Form.{Form}
+use Rattle.sheet_lines.specs.declared.Form.the-variants as F
+use Rattle.sheet_lines.specs.Form.{effectCount, formOf}
+use Rattle.sheet_lines.specs.Says.{member, floor, effect}
+use Rattle.sheet_lines.proofs.SaysForm.{Read, says, malformed, form-read}
 use Rattle.sheet.specs.declared.Sheet.{Sheet}
 use Rattle.sheet.specs.declared.Reading.{Reading}
-use Rattle.sheet.specs.Lines.{Lines, line, rest, split}
-use Rattle.sheet.specs.Sheet.{Draft, Taken, unread, dueAfter, isComplete, withEffect, withNext, ifTaken, effectNumber, valued, lineTaken, reading, ifRead, readFrom, readSheet}
-use Rattle.sheet.specs.Keeps.{EffectsWithin, Keeps, KeepsSoFar}
+use Rattle.text.specs.Lines.{Lines, line, rest, split}
+use Rattle.sheet.specs.Sheet.{Draft, Taken, unread, isComplete, withEffect, ifTaken, effectNumber, valued, lineTaken, reading, ifRead, readFrom, readSheet}
+use Rattle.sheet.specs.Keeps.{EffectsWithin, Keeps, KeepsColumn, KeepsSoFar}
 
 -- the draft keeps the limits
 abbrev pub Kept : Draft → Type 0
@@ -47,63 +48,49 @@ effect-taken z e = go (leb (magnitudeOf z) limit) refl e
     go true h e = leb-true (magnitudeOf z) limit h
     go false h e = absurd (omega arith)
 
-with-kept : (due : Due) (z : ℤ) (e : SheetEffects) → magnitudeOf z ≤ limit → EffectsWithin e → EffectsWithin (withEffect due z e)
-unfolding withEffect
-with-kept D.FloorOrDead z e h w = record { dead = h; roof = w .roof; snow = w .snow; rain = w .rain; wind = w .wind; quake = w .quake }
-with-kept D.Roof z e h w = record { dead = w .dead; roof = h; snow = w .snow; rain = w .rain; wind = w .wind; quake = w .quake }
-with-kept D.Snow z e h w = record { dead = w .dead; roof = w .roof; snow = h; rain = w .rain; wind = w .wind; quake = w .quake }
-with-kept D.Rain z e h w = record { dead = w .dead; roof = w .roof; snow = w .snow; rain = h; wind = w .wind; quake = w .quake }
-with-kept D.Wind z e h w = record { dead = w .dead; roof = w .roof; snow = w .snow; rain = w .rain; wind = h; quake = w .quake }
-with-kept D.Quake z e h w = record { dead = w .dead; roof = w .roof; snow = w .snow; rain = w .rain; wind = w .wind; quake = h }
-with-kept D.Member z e h w = w
-with-kept D.Nothing z e h w = w
+-- an effect is within the limit
+abbrev Within : ℤ → Type 0
+Within z = magnitudeOf z ≤ limit
 
--- neither a floor line nor an effect is found where a member is due, so the column is opened
-unfoldable pub Later : Form → Type 0
-Later (F.Member code) = ⊥
-Later (F.Floor x) = Unit {0}
-Later (F.Effect z) = Unit {0}
-Later F.Malformed = ⊥
+-- the effect at each place is within the limit
+pub each-within : {es : List ℤ} → EffectsWithin es → (k : ℕ) → magnitudeOf (getD es k (pos 0)) ≤ limit
+each-within w k = all-at {P = Within} (pos 0) (omega arith) (w .each) k
 
-pub opened-before : (d : Draft) (l : List ℕ) (f : Form) → formOf (d .due) l ≡ f → Kept d → Later f → Reached (d .sheet .column)
-unfolding Later
-opened-before d l f e k h = k .column (λ q. member-first l (d .due) f e q (λ g. Later g → ⊥) (λ code z. z) (λ z. z) h)
+-- what holds before a line with this form
+unfoldable pub Ready : Draft → Form → Type 0
+Ready d (F.Member code) = d .sheet .column ≡ unopened
+Ready d (F.Floor x) = Reached (d .sheet .column)
+Ready d (F.Effect k z) = (k < effectCount) × Reached (d .sheet .column)
+Ready d F.Malformed = Unit {0}
 
--- a member is due before the first line alone
-later : {A : Type 0} → D.FloorOrDead ≡ D.Member → A
-later q = let z : _≡_ {A = ℕ} 0 1 = cc in absurd (omega arith)
+pub line-ready : (d : Draft) (l : List ℕ) {f : Form} → formOf (d .due) l ≡ f → Kept d → Ready d f
+unfolding Ready KeepsColumn
+line-ready d l e k = subst (Ready d) e (go (form-read (d .due) l))
+  where
+    at : {due : Due} → d .due ≡ due → KeepsColumn due (d .sheet .column)
+    at q = subst (λ (u : Due). KeepsColumn u (d .sheet .column)) q (k .column)
 
-after-later : {A : Type 0} (due : Due) → dueAfter due ≡ D.Member → A
-unfolding dueAfter
-after-later D.Member q = let z : _≡_ {A = ℕ} 0 1 = cc in absurd (omega arith)
-after-later D.FloorOrDead q = let z : _≡_ {A = ℕ} 0 1 = cc in absurd (omega arith)
-after-later D.Roof q = let z : _≡_ {A = ℕ} 0 1 = cc in absurd (omega arith)
-after-later D.Snow q = let z : _≡_ {A = ℕ} 0 1 = cc in absurd (omega arith)
-after-later D.Rain q = let z : _≡_ {A = ℕ} 0 1 = cc in absurd (omega arith)
-after-later D.Wind q = let z : _≡_ {A = ℕ} 0 1 = cc in absurd (omega arith)
-after-later D.Quake q = let z : _≡_ {A = ℕ} 0 1 = cc in absurd (omega arith)
-after-later D.Nothing q = let z : _≡_ {A = ℕ} 0 1 = cc in absurd (omega arith)
+    go : {f : Form} → Read (d .due) l f → Ready d f
+    go (malformed e) = subst⁻¹ (Ready d) e tt
+    go (says (member code q e t)) = subst⁻¹ (Ready d) e (at q)
+    go (says (floor x q e t)) = subst⁻¹ (Ready d) e (at q)
+    go (says (effect n z h q e t)) = subst⁻¹ (Ready d) e (h, at q)
 
-valued-kept : (d : Draft) (l : List ℕ) (f : Form) → formOf (d .due) l ≡ f → Kept d → Kept (valued d f .draft)
-unfolding valued Later
-valued-kept d l (F.Member code) e k =
+valued-kept : (d : Draft) (f : Form) → Ready d f → Kept d → Kept (valued d f .draft)
+unfolding valued Ready KeepsColumn
+valued-kept d (F.Member code) r k =
     if-kept _ d _ k λ z.
-    record {
-      before = λ q. later q;
-      column = λ _. reached-opened (memberOf code) z;
-      effects = k .effects;
-    }
-valued-kept d l (F.Floor x) e k =
-    if-kept _ d _ k λ z. record { before = λ q. later q; column = λ _. reached-entered x (opened-before d l (F.Floor x) e k tt); effects = k .effects }
-valued-kept d l (F.Effect z) e k =
-    if-kept (effectNumber z) d (withNext d z) k λ h.
-    record { before = λ q. after-later (d .due) q; column = λ _. opened-before d l (F.Effect z) e k tt; effects = with-kept (d .due) z _ (effect-taken z h) (k .effects) }
-valued-kept d l F.Malformed e k = if-kept _ d d k (λ _. k)
+    record { column = reached-opened (memberOf code) z; effects = k .effects }
+valued-kept d (F.Floor x) r k = if-kept _ d _ k λ z. record { column = reached-entered x r; effects = k .effects }
+valued-kept d (F.Effect n z) r k =
+    if-kept (effectNumber z) d (withEffect d n z) k λ h.
+    record { column = r .1; effects = record { count = length-set (d .sheet .effects) n z ∙ k .effects .count; each = all-set {P = Within} n z (effect-taken z h) (k .effects .each) } }
+valued-kept d F.Malformed r k = if-kept _ d d k (λ _. k)
 
 -- a line leaves a draft that keeps the limits
 pub line-kept : (d : Draft) (l : List ℕ) → Kept d → Kept (lineTaken d l .draft)
 unfolding lineTaken
-line-kept d l k = valued-kept d l (formOf (d .due) l) refl k
+line-kept d l k = valued-kept d (formOf (d .due) l) (line-ready d l refl k) k
 
 -- a line that is refused leaves the draft as it was
 if-same : (n : ℕ) (d next : Draft) → (n ≡ 0 → ⊥) → ifTaken n d next .draft ≡ d
@@ -114,7 +101,7 @@ valued-same : (d : Draft) (f : Form) → (valued d f .number ≡ 0 → ⊥) → 
 unfolding valued ifTaken
 valued-same d (F.Member code) h = if-same _ d _ h
 valued-same d (F.Floor x) h = if-same _ d _ h
-valued-same d (F.Effect z) h = if-same (effectNumber z) d (withNext d z) h
+valued-same d (F.Effect k z) h = if-same (effectNumber z) d (withEffect d k z) h
 valued-same d F.Malformed h = if-same _ d d h
 
 pub line-refused : (d : Draft) (l : List ℕ) → (lineTaken d l .number ≡ 0 → ⊥) → lineTaken d l .draft ≡ d
@@ -123,29 +110,13 @@ line-refused d l h = valued-same d (formOf (d .due) l) h
 
 -- before the first line nothing is asked of the column, and no effect is beyond the limit
 pub unread-kept : Kept unread
-unread-kept =
-    record {
-      before = λ _. refl;
-      column = λ h. absurd (h refl);
-      effects = record { dead = omega arith; roof = omega arith; snow = omega arith; rain = omega arith; wind = omega arith; quake = omega arith };
-    }
-
--- a sheet has all its lines where nothing is due
-pub nothing-due : (due : Due) → isComplete due ≡ true → due ≡ D.Nothing
-unfolding isComplete
-nothing-due D.Nothing h = refl
-nothing-due D.Member h = absurd (false≢true h)
-nothing-due D.FloorOrDead h = absurd (false≢true h)
-nothing-due D.Roof h = absurd (false≢true h)
-nothing-due D.Snow h = absurd (false≢true h)
-nothing-due D.Rain h = absurd (false≢true h)
-nothing-due D.Wind h = absurd (false≢true h)
-nothing-due D.Quake h = absurd (false≢true h)
+unfolding KeepsColumn
+unread-kept = record { column = refl; effects = record { count = refl; each = all-same {P = Within} (pos 0) (omega arith) effectCount } }
 
 whole-keeps : (due : Due) (s : Sheet) → isComplete due ≡ true → KeepsSoFar due s → Keeps s
-whole-keeps due s h k =
-    let e : due ≡ D.Nothing = nothing-due due h in
-    record { column = k .column (λ q. let z : _≡_ {A = ℕ} 0 1 = cc in omega arith); effects = k .effects }
+unfolding isComplete KeepsColumn
+whole-keeps D.Member s h k = absurd (false≢true h)
+whole-keeps (D.Effect n) s h k = record { column = k .column; effects = k .effects }
 
 -- where a line is refused the number is not 0, so what is read after it decides
 if-keeps : (t : Taken) (k start end : ℕ) (d : Draft) (r : Reading) → (r .number ≡ 0 → Keeps (r .sheet))

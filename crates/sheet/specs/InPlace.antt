@@ -4,7 +4,7 @@ use mathlib.Core.List.{List}
 use Prim.Native.Nat.{ℕ}
 use Rattle.column.specs.declared.Member.{Member}
 use Rattle.column.specs.Column.{columnFrom}
-use Rattle.sheet.specs.declared.SheetEffects.{SheetEffects}
+use lib.IntN.{ℤ}
 use Rattle.sheet.specs.declared.Sheet.{Sheet}
 use Rattle.sheet.specs.declared.Summary.{Summary}
 use Rattle.sheet.specs.declared.Reading.{Reading}
@@ -13,7 +13,7 @@ use Rattle.sheet.specs.declared.steps.Step.{Step}
 use Rattle.sheet.specs.Sheet.{Draft, Taken}
 
 -- a sheet, with the places of its column
-abbrev pub sheetFrom : Member → ℕ → SheetEffects → List ℕ → Sheet
+abbrev pub sheetFrom : Member → ℕ → List ℤ → List ℕ → Sheet
 sheetFrom m n effects places = record { column = columnFrom m n places; effects = effects }
 
 -- a draft, and what became of a line

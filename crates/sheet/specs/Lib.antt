@@ -1,6 +1,4 @@
 -- The definitions of reading a sheet; paper 01 in its order, then what private functions ask.
-pub mod Lines
 pub mod Sheet
 pub mod Keeps
 pub mod InPlace
-pub mod LineEnd

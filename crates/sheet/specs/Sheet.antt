@@ -1,24 +1,23 @@
 -- Paper 01, "The sheet" and "Numbers by the place of checking": reading a sheet, line by line.
 -- Assumes nothing.
-use mathlib.Core.Bool.{Bool, true, false, cond}
+use mathlib.Core.Bool.{Bool, false, cond}
 use mathlib.Core.List.{List, [], _∷_}
 use Prim.Native.Nat.{ℕ, _+_, _-_}
-use lib.Dec.{ltb, eqb}
+use lib.Dec.{leb, ltb, eqb}
 use lib.IntN.{ℤ, pos}
-use lib.ListN.{length, take, drop}
+use lib.ListN.{length, take, drop, set, replicate}
 use Rattle.column.specs.declared.Column.{Column}
 use Rattle.column.specs.declared.Outcome.{Outcome}
 use Rattle.column.specs.Column.{memberOf, unopened, openedOf, enteredOf}
 use Rattle.newtons.specs.Effect.{within}
-use Rattle.form.specs.declared.Due.{Due}
-use Rattle.form.specs.declared.Due.the-variants as D
-use Rattle.form.specs.declared.Form.{Form}
-use Rattle.form.specs.declared.Form.the-variants as F
-use Rattle.form.specs.Form.{formOf}
-use Rattle.sheet.specs.declared.SheetEffects.{SheetEffects}
+use Rattle.sheet_lines.specs.declared.Due.{Due}
+use Rattle.sheet_lines.specs.declared.Due.the-variants as D
+use Rattle.sheet_lines.specs.declared.Form.{Form}
+use Rattle.sheet_lines.specs.declared.Form.the-variants as F
+use Rattle.sheet_lines.specs.Form.{effectCount, formOf}
 use Rattle.sheet.specs.declared.Sheet.{Sheet}
 use Rattle.sheet.specs.declared.Reading.{Reading}
-use Rattle.sheet.specs.Lines.{Lines, line, rest, split}
+use Rattle.text.specs.Lines.{Lines, line, rest, split}
 
 -- a sheet as far as it was read, and the line that is due
 pub record Draft : Type 0 where
@@ -31,51 +30,20 @@ pub record Taken : Type 0 where
   pub draft : Draft
 
 -- before the first line: no member is opened, and all effects are 0
-abbrev pub noEffects : SheetEffects
-noEffects = record { dead = pos 0; roof = pos 0; snow = pos 0; rain = pos 0; wind = pos 0; quake = pos 0 }
-
 abbrev pub unread : Draft
-unread = record { due = D.Member; sheet = record { column = unopened; effects = noEffects } }
-
--- 01, The sheet: "in a fixed order"; the line that is due after a line that was due, a floor line aside
-unfoldable pub dueAfter : Due → Due
-dueAfter D.Member = D.FloorOrDead
-dueAfter D.FloorOrDead = D.Roof
-dueAfter D.Roof = D.Snow
-dueAfter D.Snow = D.Rain
-dueAfter D.Rain = D.Wind
-dueAfter D.Wind = D.Quake
-dueAfter D.Quake = D.Nothing
-dueAfter D.Nothing = D.Nothing
+unread = record { due = D.Member; sheet = record { column = unopened; effects = replicate effectCount (pos 0) } }
 
 -- 01, The sheet: the sheet has all its lines
 unfoldable pub isComplete : Due → Bool
-isComplete D.Nothing = true
 isComplete D.Member = false
-isComplete D.FloorOrDead = false
-isComplete D.Roof = false
-isComplete D.Snow = false
-isComplete D.Rain = false
-isComplete D.Wind = false
-isComplete D.Quake = false
+isComplete (D.Effect k) = leb effectCount k
 
--- the effects with that of the line that was due
-unfoldable pub withEffect : Due → ℤ → SheetEffects → SheetEffects
-withEffect D.FloorOrDead z e = record { dead = z; roof = e .roof; snow = e .snow; rain = e .rain; wind = e .wind; quake = e .quake }
-withEffect D.Roof z e = record { dead = e .dead; roof = z; snow = e .snow; rain = e .rain; wind = e .wind; quake = e .quake }
-withEffect D.Snow z e = record { dead = e .dead; roof = e .roof; snow = z; rain = e .rain; wind = e .wind; quake = e .quake }
-withEffect D.Rain z e = record { dead = e .dead; roof = e .roof; snow = e .snow; rain = z; wind = e .wind; quake = e .quake }
-withEffect D.Wind z e = record { dead = e .dead; roof = e .roof; snow = e .snow; rain = e .rain; wind = z; quake = e .quake }
-withEffect D.Quake z e = record { dead = e .dead; roof = e .roof; snow = e .snow; rain = e .rain; wind = e .wind; quake = z }
-withEffect D.Member z e = e
-withEffect D.Nothing z e = e
-
--- the draft after a line that gave a column, and after one that gave an effect
+-- 01, The sheet: "in a fixed order"; the draft after a line that gave a column, and after the effect at a place
 abbrev pub withColumn : Draft → Column → Draft
-withColumn d c = record { due = D.FloorOrDead; sheet = record { column = c; effects = d .sheet .effects } }
+withColumn d c = record { due = D.Effect 0; sheet = record { column = c; effects = d .sheet .effects } }
 
-abbrev pub withNext : Draft → ℤ → Draft
-withNext d z = record { due = dueAfter (d .due); sheet = record { column = d .sheet .column; effects = withEffect (d .due) z (d .sheet .effects) } }
+abbrev pub withEffect : Draft → ℕ → ℤ → Draft
+withEffect d k z = record { due = D.Effect (k + 1); sheet = record { column = d .sheet .column; effects = set (d .sheet .effects) k z } }
 
 -- a line with a number is refused, and the draft is then as before; with 0 it is taken
 unfoldable pub ifTaken : ℕ → Draft → Draft → Taken
@@ -93,7 +61,7 @@ withOutcome d o = ifTaken (o .number) d (withColumn d (o .column))
 unfoldable pub valued : Draft → Form → Taken
 valued d (F.Member code) = withOutcome d (openedOf (memberOf code))
 valued d (F.Floor l) = withOutcome d (enteredOf (d .sheet .column) l)
-valued d (F.Effect z) = ifTaken (effectNumber z) d (withNext d z)
+valued d (F.Effect k z) = ifTaken (effectNumber z) d (withEffect d k z)
 valued d F.Malformed = ifTaken 10 d d
 
 -- 01, Numbers by the place of checking: "each line: form, then its values"

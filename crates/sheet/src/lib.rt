@@ -11,28 +11,19 @@ use column::LINES;
 use column::Member;
 use column::Places;
 use refusal::Refusal;
+use sheet_lines::EFFECTS;
 use steps::Progress;
+use text::scan::line_end;
 
-mod line_end;
 mod steps;
 
 // The most bytes that a sheet may have.
-const LONGEST: usize = 32768;
+pub const LONGEST: usize = 32768;
 
-// The six effects that a sheet gives, in newtons; live is worked out from the column.
-pub struct SheetEffects {
-    pub dead: i64,
-    pub roof: i64,
-    pub snow: i64,
-    pub rain: i64,
-    pub wind: i64,
-    pub quake: i64,
-}
-
-// What a sheet says.
+// What a sheet says: a column, and six effects in newtons, dead to quake; live is worked out from the column.
 pub struct Sheet {
     pub column: Column,
-    pub effects: SheetEffects,
+    pub effects: [i64; EFFECTS],
 }
 
 // What reading gives: the number of the refusal, 0 where the sheet is read; the line K, which is the
@@ -55,7 +46,7 @@ struct Summary {
     pub end: usize,
     pub member: Member,
     pub count: u16,
-    pub effects: SheetEffects,
+    pub effects: [i64; EFFECTS],
 }
 
 // What reading gives where it stops.
@@ -97,7 +88,7 @@ fn read_in(held: &mut Places, text: &[u8]) -> Summary
     let mut at = 0;
     let mut line: u64 = 0;
     while at < text.len() {
-        let end = line_end::line_end(text, at);
+        let end = line_end(text, at);
         if end == text.len() {
             return malformed(line + 1, at, end, progress);
         }

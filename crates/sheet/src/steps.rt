@@ -1,19 +1,20 @@
 // One line of a sheet: what becomes of the sheet as far as it was read.
 ghost use mathlib.Core.Path.{_≡_};
 ghost use mathlib.Core.List.{List};
-ghost use Prim.Native.Nat.{ℕ};
+ghost use Prim.Native.Nat.{ℕ, _<_};
 ghost use Rattle.column.specs.Column.{noPlaces, columnFrom, unopened, Reached};
-ghost use Rattle.form.specs.declared.Form.the-variants as Form;
-ghost use Rattle.sheet.specs.Sheet.{unread, dueAfter, isComplete, withEffect, effectNumber, valued, lineTaken};
+ghost use Rattle.sheet_lines.specs.Form.{effectCount};
+ghost use Rattle.sheet_lines.specs.declared.Form.the-variants as Form;
+ghost use Rattle.sheet.specs.Sheet.{unread, isComplete, effectNumber, valued, lineTaken};
 ghost use Rattle.sheet.specs.Keeps.{KeepsSoFar};
 ghost use Rattle.sheet.specs.InPlace.{draftOf, takenOf};
-use crate::SheetEffects;
 use column::Line;
 use column::Member;
 use column::Places;
-use form::Due;
-use form::Form;
 use refusal::Refusal;
+use sheet_lines::Due;
+use sheet_lines::EFFECTS;
+use sheet_lines::Form;
 
 // A sheet as far as it was read, its lines aside, whose numbers are in the lent places; and the line
 // that is due.
@@ -21,7 +22,7 @@ pub struct Progress {
     pub due: Due,
     pub member: Member,
     pub count: u16,
-    pub effects: SheetEffects,
+    pub effects: [i64; EFFECTS],
 }
 
 // What becomes of a line: the number of its refusal, 0 where it is taken, and the sheet then.
@@ -38,30 +39,7 @@ pub fn unread() -> Progress
         due: Due::Member,
         member: Member { code: 0 },
         count: 0,
-        effects: SheetEffects {
-            dead: 0,
-            roof: 0,
-            snow: 0,
-            rain: 0,
-            wind: 0,
-            quake: 0,
-        },
-    }
-}
-
-// The line that is due after a line that was due, a floor line aside.
-fn due_after(due: Due) -> Due
-    ensures { λ r. ⌜ r ≡ dueAfter due ⌝ }
-{
-    match due {
-        Due::Member => Due::FloorOrDead,
-        Due::FloorOrDead => Due::Roof,
-        Due::Roof => Due::Snow,
-        Due::Snow => Due::Rain,
-        Due::Rain => Due::Wind,
-        Due::Wind => Due::Quake,
-        Due::Quake => Due::Nothing,
-        Due::Nothing => Due::Nothing,
+        effects: [0; EFFECTS],
     }
 }
 
@@ -70,49 +48,8 @@ pub fn is_complete(due: Due) -> bool
     ensures { λ r. ⌜ r ≡ isComplete due ⌝ }
 {
     match due {
-        Due::Nothing => true,
         Due::Member => false,
-        Due::FloorOrDead => false,
-        Due::Roof => false,
-        Due::Snow => false,
-        Due::Rain => false,
-        Due::Wind => false,
-        Due::Quake => false,
-    }
-}
-
-// The effects with that of the line that was due.
-fn with_effect(due: Due, newtons: i64, effects: SheetEffects) -> SheetEffects
-    ensures { λ r. ⌜ r ≡ withEffect due newtons effects ⌝ }
-{
-    let mut next = effects;
-    match due {
-        Due::FloorOrDead => {
-            next.dead = newtons;
-            next
-        }
-        Due::Roof => {
-            next.roof = newtons;
-            next
-        }
-        Due::Snow => {
-            next.snow = newtons;
-            next
-        }
-        Due::Rain => {
-            next.rain = newtons;
-            next
-        }
-        Due::Wind => {
-            next.wind = newtons;
-            next
-        }
-        Due::Quake => {
-            next.quake = newtons;
-            next
-        }
-        Due::Member => effects,
-        Due::Nothing => effects,
+        Due::Effect(place) => place >= EFFECTS,
     }
 }
 
@@ -143,7 +80,7 @@ fn open_member(progress: Progress, code: u64) -> Step
     Step {
         number: 0,
         progress: Progress {
-            due: Due::FloorOrDead,
+            due: Due::Effect(0),
             member: member,
             count: 0,
             effects: effects,
@@ -168,7 +105,7 @@ fn enter_line(held: &mut Places, progress: Progress, line: Line) -> Step
     Step {
         number: 0,
         progress: Progress {
-            due: Due::FloorOrDead,
+            due: Due::Effect(0),
             member: member,
             count: joined.count,
             effects: effects,
@@ -176,9 +113,10 @@ fn enter_line(held: &mut Places, progress: Progress, line: Line) -> Step
     }
 }
 
-// The sheet with an effect; as it was where the effect is beyond the limit.
-fn take_effect(progress: Progress, newtons: i64) -> Step
-    ensures { λ r. ⌜ ((places : List ℕ) → takenOf r places ≡ valued (draftOf progress places) (Form.Effect newtons)) ⌝ }
+// The sheet with the effect at a place; as it was where the effect is beyond the limit.
+fn take_effect(progress: Progress, place: usize, newtons: i64) -> Step
+    requires { ⌜ place < effectCount ⌝ }
+    ensures { λ r. ⌜ ((places : List ℕ) → takenOf r places ≡ valued (draftOf progress places) (Form.Effect place newtons)) ⌝ }
 {
     let refused = effect_number(newtons);
     if refused != 0 {
@@ -187,16 +125,16 @@ fn take_effect(progress: Progress, newtons: i64) -> Step
             progress: progress,
         };
     }
-    let due = progress.due;
     let member = progress.member;
-    let before = progress.effects;
+    let mut effects = progress.effects;
+    effects[place] = newtons;
     Step {
         number: 0,
         progress: Progress {
-            due: due_after(due),
+            due: Due::Effect(place + 1),
             member: member,
             count: progress.count,
-            effects: with_effect(due, newtons, before),
+            effects: effects,
         },
     }
 }
@@ -207,11 +145,11 @@ pub fn take_line(held: &mut Places, progress: Progress, line: &[u8]) -> Step
     ensures { λ r. ⌜ takenOf r (now (held .exit)) ≡ lineTaken (draftOf progress (now (held .entry))) (now (line .entry)) ⌝ }
 {
     let due = progress.due;
-    let form = form::form_of(due, line);
+    let form = sheet_lines::form_of(due, line);
     match form {
         Form::Member(code) => open_member(progress, code),
         Form::Floor(entry) => enter_line(held, progress, entry),
-        Form::Effect(newtons) => take_effect(progress, newtons),
+        Form::Effect { place, newtons } => take_effect(progress, place, newtons),
         Form::Malformed => Step {
             number: refusal::number(Refusal::SheetMalformed),
             progress: progress,

@@ -2,4 +2,6 @@
 pub mod Decimal
 pub mod Digits
 pub mod Sign
+pub mod Lines
+pub mod LineEnd
 pub mod Puts

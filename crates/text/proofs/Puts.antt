@@ -1,20 +1,38 @@
--- Texts put into a lent buffer: one after another, and from the front on.
+-- Texts put into a lent buffer: one after another, and where all find room.
 -- Assumes nothing.
 use mathlib.Core.Path.{_≡_, refl, sym, _∙_, ap}
-use mathlib.Core.List.{List, [], _∷_, _++_}
+use mathlib.Core.Bool.{Bool, true, false, cond}
+use mathlib.Core.List.{List, [], _∷_, _++_, append-assoc}
 use Prim.Native.Nat.{ℕ, suc, _+_, _≤_}
 use native.Mathlib.Nat.{add-zero, zero-add}
 use native.Mathlib.Omega.{arith}
 use lib.ListN.{length, set, take, drop, length-append}
 use lib.Seq.{sets, sets-eq, length-sets, take-at, drop-at}
 use borrow.Author.Tests.{le-leb}
-use Rattle.text.specs.Put.{putIn, putEnd, Put}
+use Rattle.text.specs.Text.{joined}
+use Rattle.text.specs.Put.{fits, Out, out, putOne, puts}
 
--- where there is room for a text, it is put
-pub put-fits : {l v after : List ℕ} {i end : ℕ} → i + length v ≤ length l → end ≡ putEnd l i v → after ≡ putIn l i v → Put l i v after end
-unfolding putIn putEnd
-put-fits {l} {v} {after} {i} room e t =
-    record { ends = rw (le-leb (i + length v) (length l) room) at e; holds = rw (le-leb (i + length v) (length l) room) at t }
+-- some texts, then others after them
+pub puts-then : {b d : List ℕ} {j k : ℕ} (l : List ℕ) (i : ℕ) (vs ws : List (List ℕ)) → out b j ≡ puts l i vs → out d k ≡ puts b j ws → out d k ≡ puts l i (vs ++ ws)
+unfolding puts
+puts-then l i [] ws p q = q ∙ ap (λ (o : Out). puts (o .buffer) (o .end) ws) p
+puts-then l i (v ∷ vs) ws p q = puts-then (putOne l i v .buffer) (putOne l i v .end) vs ws p q
+
+-- the buffer keeps its length
+pub puts-length : {after : List ℕ} {end : ℕ} (l : List ℕ) (i : ℕ) (vs : List (List ℕ)) → out after end ≡ puts l i vs → length after ≡ length l
+unfolding puts putOne
+puts-length l i [] p = ap (λ (o : Out). length (o .buffer)) p
+puts-length l i (v ∷ vs) p = puts-length (putOne l i v .buffer) (putOne l i v .end) vs p ∙ go (fits l i v)
+  where
+    go : (b : Bool) → length (cond b (out (sets l i v) (i + length v)) (out l i) .buffer) ≡ length l
+    go true = length-sets l i v
+    go false = refl
+
+-- the text of some texts and then others is that of both
+pub joined-append : (vs ws : List (List ℕ)) → joined (vs ++ ws) ≡ joined vs ++ joined ws
+unfolding joined
+joined-append [] ws = refl
+joined-append (v ∷ vs) ws = rw (joined-append vs ws) (sym (append-assoc v (joined vs) (joined ws)))
 
 sets-append : (vs ws l : List ℕ) (i : ℕ) → sets l i (vs ++ ws) ≡ sets (sets l i vs) (i + length vs) ws
 sets-append [] ws l i = ap (λ (k : ℕ). sets l k ws) (sym (add-zero i))
@@ -22,43 +40,32 @@ sets-append (a ∷ vs) ws l i =
     let e : suc i + length vs ≡ i + suc (length vs) = omega arith in
     sets-append vs ws (set l i a) (suc i) ∙ ap (λ (k : ℕ). sets (sets (set l i a) (suc i) vs) k ws) e
 
--- one text, then another after it
-pub put-then : {a b d v w : List ℕ} {i j k : ℕ} → Put a i v b j → Put b j w d k → Put a i (v ++ w) d k
-put-then {a} {b} {d} {v} {w} {i} {j} {k} p q =
+-- where there is room for all, all are put
+puts-fit : (vs : List (List ℕ)) (l : List ℕ) (i : ℕ) → i + length (joined vs) ≤ length l → puts l i vs ≡ out (sets l i (joined vs)) (i + length (joined vs))
+unfolding puts joined putOne
+puts-fit [] l i room = rw (add-zero i)
+puts-fit (v ∷ vs) l i room =
+    let size = length-append v (joined vs) in
+    let n : i + length v + length (joined vs) ≡ i + length (v ++ joined vs) = omega arith in
+    rw (le-leb (i + length v) (length l) (omega arith))
+    (puts-fit vs (sets l i v) (i + length v) (omega (arith, length-sets l i v)) ∙ rw (n, sets-append v (joined vs) l i))
+
+-- texts that find room from the front on: how far they reach, what then stands there, and the rest as it was
+pub record Front (l : List ℕ) (text after : List ℕ) (end : ℕ) : Type 0 where
+  pub ends : end ≡ length text
+  pub taken : take end after ≡ text
+  pub left : drop end after ≡ drop end l
+  pub inside : end ≤ length after
+
+pub puts-front : {l after : List ℕ} {end : ℕ} (vs : List (List ℕ)) → out after end ≡ puts l 0 vs → length (joined vs) ≤ length l → Front l (joined vs) after end
+puts-front {l} {after} {end} vs p room =
+    let t = joined vs in
+    let e : out after end ≡ out (sets l 0 t) (0 + length t) = p ∙ puts-fit vs l 0 (omega arith) in
+    let n : end ≡ length t = ap (λ (o : Out). o .end) e ∙ zero-add (length t) in
+    let b : after ≡ t ++ drop end l = ap (λ (o : Out). o .buffer) e ∙ (sets-eq t l 0 (omega arith) ∙ ap (λ (k : ℕ). t ++ drop k l) (zero-add (length t) ∙ sym n)) in
     record {
-      ends = rw (length-append v w) (omega (arith, p .ends, q .ends));
-      holds = q .holds ∙ rw (p .holds, p .ends) (sym (sets-append v w a i));
+      ends = n;
+      taken = ap (take end) b ∙ take-at t (drop end l) end (sym n);
+      left = ap (drop end) b ∙ drop-at t (drop end l) end (sym n);
+      inside = omega (arith, puts-length l 0 vs p);
     }
-
--- one byte
-pub put-one : (l : List ℕ) (i b : ℕ) → Put l i (b ∷ []) (set l i b) (i + 1)
-put-one l i b = record { ends = refl; holds = refl }
-
--- nothing
-pub put-none : (l : List ℕ) (i : ℕ) → Put l i [] l i
-put-none l i = record { ends = sym (add-zero i); holds = refl }
-
--- the buffer keeps its length
-pub put-length : {l v after : List ℕ} {i end : ℕ} → Put l i v after end → length after ≡ length l
-put-length {l} {v} {after} {i} p = ap length (p .holds) ∙ length-sets l i v
-
--- the room from the end of a text on is that from its start on, less the text
-pub put-left : {l v after : List ℕ} {i end : ℕ} → Put l i v after end → end + length l ≡ i + length v + length after
-put-left p = omega (arith, p .ends, put-length p)
-
--- a text at the front of a buffer, and the rest of the buffer as it was
-put-front : {l v after : List ℕ} {end : ℕ} → Put l 0 v after end → end ≤ length l → after ≡ v ++ drop end l
-put-front {l} {v} p room =
-    p .holds ∙ (sets-eq v l 0 (omega (arith, p .ends)) ∙ ap (λ (k : ℕ). v ++ drop k l) (sym (p .ends)))
-
-module _ {l v after : List ℕ} {end : ℕ} (p : Put l 0 v after end) (room : end ≤ length l) where
-  count : length v ≡ end
-  count = sym (p .ends ∙ zero-add (length v))
-
-  -- so the bytes before the end are the text
-  pub front-taken : take end after ≡ v
-  front-taken = ap (take end) (put-front p room) ∙ take-at v (drop end l) end count
-
-  -- and those from the end on are as they were
-  pub front-left : drop end after ≡ drop end l
-  front-left = ap (drop end) (put-front p room) ∙ drop-at v (drop end l) end count

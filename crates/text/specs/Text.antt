@@ -13,16 +13,14 @@ abbrev pub bytesOf : String → List ℕ
 bytesOf nothing = []
 bytesOf (before c s) = code c ∷ bytesOf s
 
--- the byte that ends a line, and a minus sign
-abbrev pub newline : ℕ
-newline = 10
+-- texts, one behind the other
+unfoldable pub joined : List (List ℕ) → List ℕ
+joined [] = []
+joined (t ∷ ts) = t ++ joined ts
 
+-- a minus sign
 abbrev pub minus : ℕ
 minus = 45
-
--- 01, The sheet: a line, "ended by one newline byte (10)"
-abbrev pub ended : List ℕ → List ℕ
-ended l = l ++ (newline ∷ [])
 
 -- a number below 10 is one digit; else its digits are those of a tenth of it and then the last
 unfoldable pub lastDigit : Bool → (ℕ → List ℕ) → ℕ → List ℕ
@@ -38,7 +36,11 @@ digitsIn (suc most) n = lastDigit (ltb n 10) (digitsIn most) n
 unfoldable pub decimal : ℕ → List ℕ
 decimal n = digitsIn n n
 
--- 01, The sheet: "a minus sign", which stands "never before 0"
-unfoldable pub signedDecimal : ℤ → List ℕ
-signedDecimal (pos n) = decimal n
-signedDecimal (negsuc n) = minus ∷ decimal (suc n)
+-- 01, The sheet: "a minus sign", which stands "never before 0", and then the digits
+unfoldable pub signedParts : ℤ → List (List ℕ)
+signedParts (pos n) = decimal n ∷ []
+signedParts (negsuc n) = (minus ∷ []) ∷ decimal (suc n) ∷ []
+
+-- 01, The sheet: a number with its sign
+abbrev pub signedDecimal : ℤ → List ℕ
+signedDecimal z = joined (signedParts z)

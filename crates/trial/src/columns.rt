@@ -97,7 +97,7 @@ fn left(count: usize, off: u64) -> usize
 fn asked_after(code: u64, numbers: [u64; ROOM], end: usize, floor: u64) -> Asked
     requires { ⌜ end ≤ 1200 ⌝ }
 {
-    demand3::figure_after(code, &numbers[..end], floor)
+    error_bound::figure_after(code, &numbers[..end], floor)
 }
 
 // Asks at a floor after the whole list of numbers, of which the last few are left off.

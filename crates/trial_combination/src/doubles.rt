@@ -1,10 +1,17 @@
-// Reads doubles from the hexadecimal digits of their bits, most significant first.
+// Reads doubles and whole numbers from the hexadecimal digits of their bits, most significant first.
 ghost use mathlib.Core.Path.{_≡_};
 ghost use lib.Ieee.{binary64, nanBits};
 ghost use lib.ListN.{length};
 use effects::Effects;
+use effects::Newtons;
 
-// A double, and whether all its digits are digits.
+// Bits, and whether all their digits are digits.
+pub struct ReadBits {
+    pub well: bool,
+    pub bits: u64,
+}
+
+// A double, and the same.
 pub struct ReadDouble {
     pub well: bool,
     pub double: f64,
@@ -14,6 +21,12 @@ pub struct ReadDouble {
 pub struct ReadEffects {
     pub well: bool,
     pub effects: Effects,
+}
+
+// Seven whole numbers, in the same order.
+pub struct ReadNewtons {
+    pub well: bool,
+    pub newtons: Newtons,
 }
 
 // The value of a digit, 16 where it is none.
@@ -52,8 +65,16 @@ fn double_of(bits: u64) -> f64 {
     f64::from_bits(bits)
 }
 
-// The double with these digits.
-pub fn double_from(digits: &[u8]) -> ReadDouble {
+// The whole number of some bits, in two's complement.
+fn whole_of(bits: u64) -> i64 {
+    if bits < 0x8000_0000_0000_0000 {
+        return bits as i64;
+    }
+    -((0xffff_ffff_ffff_ffff - bits) as i64) - 1
+}
+
+// The bits with these digits.
+fn bits_from(digits: &[u8]) -> ReadBits {
     let mut bits = 0u64;
     let mut well = true;
     let mut i = 0;
@@ -65,9 +86,18 @@ pub fn double_from(digits: &[u8]) -> ReadDouble {
         bits = bits % 0x1000_0000_0000_0000 * 16 + d % 16;
         i += 1;
     }
-    ReadDouble {
+    ReadBits {
         well: well,
-        double: double_of(bits),
+        bits: bits,
+    }
+}
+
+// The double with these digits.
+pub fn double_from(digits: &[u8]) -> ReadDouble {
+    let read = bits_from(digits);
+    ReadDouble {
+        well: read.well,
+        double: double_of(read.bits),
     }
 }
 
@@ -92,6 +122,31 @@ pub fn effects_from(text: &[u8]) -> ReadEffects
             rain: rain.double,
             wind: wind.double,
             quake: quake.double,
+        },
+    }
+}
+
+// Seven whole numbers, parted by single bytes.
+pub fn newtons_from(text: &[u8]) -> ReadNewtons
+    requires { ⌜ length (text .now) ≡ 118 ⌝ }
+{
+    let dead = bits_from(&text[0..16]);
+    let live = bits_from(&text[17..33]);
+    let roof = bits_from(&text[34..50]);
+    let snow = bits_from(&text[51..67]);
+    let rain = bits_from(&text[68..84]);
+    let wind = bits_from(&text[85..101]);
+    let quake = bits_from(&text[102..118]);
+    ReadNewtons {
+        well: dead.well & live.well & roof.well & snow.well & rain.well & wind.well & quake.well,
+        newtons: Newtons {
+            dead: whole_of(dead.bits),
+            live: whole_of(live.bits),
+            roof: whole_of(roof.bits),
+            snow: whole_of(snow.bits),
+            rain: whole_of(rain.bits),
+            wind: whole_of(wind.bits),
+            quake: whole_of(quake.bits),
         },
     }
 }

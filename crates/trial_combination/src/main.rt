@@ -1,5 +1,8 @@
 // Answers questions about effects and load combinations, one a line of standard input: a word, then
-// the bits of one double or of seven. Its stored output is the second reckoning's.
+// the bits of one double, of seven, or of seven whole numbers. Its stored output is the second
+// reckoning's.
+ghost use mathlib.Core.Path.{_≡_};
+ghost use lib.ListN.{length};
 use libc::STDERR_FILENO;
 use libc::STDIN_FILENO;
 
@@ -9,8 +12,38 @@ mod print;
 // More than the stored questions take.
 const ROOM: usize = 1048576;
 
-// Answers one line, told by its length and first letter: `whole` and a double, or `combine` and
-// seven. A line that asks nothing is `unread`.
+// Answers the line of a question about seven effects: `combine` and doubles. Gives whether it is one.
+fn answer_combine(line: &[u8]) -> bool
+    requires { ⌜ length (line .now) ≡ 126 ⌝ }
+{
+    let given = doubles::effects_from(&line[8..126]);
+    if line[0] != b'c' {
+        return false;
+    }
+    if given.well {
+        let effects = given.effects;
+        print::print_combined(combination::combine(effects));
+    }
+    given.well
+}
+
+// The same of `govern` and whole numbers.
+fn answer_govern(line: &[u8]) -> bool
+    requires { ⌜ length (line .now) ≡ 125 ⌝ }
+{
+    let given = doubles::newtons_from(&line[7..125]);
+    if line[0] != b'g' {
+        return false;
+    }
+    if given.well {
+        let newtons = given.newtons;
+        print::print_governed(combination::govern(newtons));
+    }
+    given.well
+}
+
+// Answers one line, told by its length and first letter: `whole` and a double, `combine` and seven, or
+// `govern` and seven whole numbers. A line that asks nothing is `unread`.
 fn answer(line: &[u8]) {
     if line.len() == 22 {
         let given = doubles::double_from(&line[6..22]);
@@ -22,13 +55,13 @@ fn answer(line: &[u8]) {
         }
     }
     if line.len() == 126 {
-        let given = doubles::effects_from(&line[8..126]);
-        if line[0] == b'c' {
-            if given.well {
-                let effects = given.effects;
-                print::print_combined(combination::combine(effects));
-                return;
-            }
+        if answer_combine(line) {
+            return;
+        }
+    }
+    if line.len() == 125 {
+        if answer_govern(line) {
+            return;
         }
     }
     print::unread();

@@ -1,5 +1,7 @@
 // Prints answers to standard output, a line each.
 use combination::Combined;
+use combination::Governed;
+use combination::Governing;
 use combination::GoverningRow;
 use effects::Load;
 use effects::RefusedEffect;
@@ -60,8 +62,9 @@ pub fn print_effect(effect: Effect) {
     write(b"\n");
 }
 
-// Writes a load's key on the sheet.
-fn write_load(load: Load) {
+// Writes which effect it is, by its load's key on the sheet.
+fn write_effect(load: Load) {
+    write(b" effect=");
     match load {
         Load::Dead => write(b"dead"),
         Load::Live => write(b"live"),
@@ -79,8 +82,7 @@ fn write_refused(refused: RefusedEffect) {
     let effect = refused.effect;
     let load = effect.load;
     write_refusal(refusal);
-    write(b" effect=");
-    write_load(load);
+    write_effect(load);
     write_double(effect.double);
 }
 
@@ -93,14 +95,29 @@ fn write_row(name: &[u8], row: GoverningRow) {
     write_double(row.double);
 }
 
+// Writes the rows that govern.
+fn write_rows(governing: Governing) {
+    write_row(b"max=", governing.greatest);
+    write_row(b" min=", governing.least);
+}
+
 // Prints the rows that govern, or the effect that is refused.
 pub fn print_combined(combined: Combined) {
     match combined {
-        Combined::Governs(governing) => {
-            write_row(b"max=", governing.greatest);
-            write_row(b" min=", governing.least);
-        }
+        Combined::Governs(governing) => write_rows(governing),
         Combined::Refused(refused) => write_refused(refused),
+    }
+    write(b"\n");
+}
+
+// Prints the rows that govern, or the load whose effect is beyond the limit.
+pub fn print_governed(governed: Governed) {
+    match governed {
+        Governed::Governs(governing) => write_rows(governing),
+        Governed::Beyond(load) => {
+            write_refusal(Refusal::EffectOutOfRange);
+            write_effect(load);
+        }
     }
     write(b"\n");
 }

@@ -1,9 +1,8 @@
--- `combination::combine` meets its contract: the check decides, and the governing rows are of what it gives. Assumes nothing.
+-- `combination::combine` meets its contract: the check decides, and what governs is of the numbers that it gives. Assumes nothing.
 use mathlib.Core.Path.{_≡_, sym, _∙_, ap}
-use Rattle.refusal.specs.Told.{gives}
+use Rattle.refusal.specs.Said.{gives}
 use Rattle.effects.specs.Check.{newtonsOf, checkedOf, saidChecked}
-use Rattle.combination.specs.Combine.{combined, combinedOf, saidCombined}
-use Rattle.effects.proofs.Checks.{checked-seven}
+use Rattle.combination.specs.Combine.{withDouble, combined, combinedOf, saidCombined}
 use Rattle.combination.proofs.Answers.{promised}
 use borrow.Author.Needs.{needs}
 use Rattle.combination.proofs.combine.Statement.{statement}
@@ -20,20 +19,27 @@ given : (c : tie.After-checked) → checkedOf (c .before .before .before .args .
 unfolding saidChecked
 given c = sym (c .before .before .check .ensures) ∙ ap saidChecked (c .checked .given .1)
 
-governing-of-requires : tie.Need-governing-of-requires
-governing-of-requires c κs = checked-seven _ (given (c .before))
+govern-requires : tie.Need-govern-requires
+govern-requires c κs = search needs
+
+with-double-requires : tie.Need-with-double-requires
+with-double-requires c κs = search needs
 
 enum-known-checked-2 : tie.Need-enum-known-checked-2
 enum-known-checked-2 c = search needs
 
 returns : tie.Need-returns
-unfolding saidCombined combined combinedOf
-returns c = promised (c .before .before .before .before .before .args .effects) (ap gives (c .governing-of .ensures) ∙ ap combined (sym (given (c .before .before))))
+unfolding combined combinedOf
+returns c =
+    let known = c .before .before .before in
+    let e = known .before .before .before .args .effects in
+    promised e (c .with-double .ensures ∙ (ap (withDouble e) (c .before .govern .ensures .0) ∙ ap (combined e) (sym (given known))))
 
 returns-2 : tie.Need-returns-2
 unfolding saidCombined saidChecked combined combinedOf
 returns-2 c =
-    promised (c .before .before .before .before .args .effects) (ap combined (sym (ap saidChecked (c .before .checked2 .given .1)) ∙ c .before .before .before .check .ensures))
+    let e = c .before .before .before .before .args .effects in
+    promised e (ap (combined e) (sym (ap saidChecked (c .before .checked2 .given .1)) ∙ c .before .before .before .check .ensures))
 
 pub combine-spec : {M : Type 1} → statement M
 combine-spec =
@@ -41,7 +47,8 @@ combine-spec =
     (tie.spec
     check-requires
     enum-known-checked
-    governing-of-requires
+    govern-requires
+    with-double-requires
     enum-known-checked-2
     returns
     returns-2)

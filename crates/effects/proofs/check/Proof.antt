@@ -8,13 +8,13 @@ use lib.IntN.{ℤ}
 use lib.Ieee.{Float}
 use lib.ListN.{length, getD, take, drop}
 use Rattle.effects.specs.declared.LoadEffect.{LoadEffect}
-use Rattle.refusal.specs.Told.{gives, refused}
+use Rattle.refusal.specs.Said.{gives, refused}
 use Rattle.newtons.specs.Effect.{limit, effectOf, saidEffect}
 use Rattle.effects.specs.Check.{loadEffect, checkedFrom, checkedOf, saidChecked}
-use Rattle.effects.specs.Fit.{Seven}
+use Rattle.effects.specs.Sized.{Seven}
 use Rattle.newtons.proofs.Limits.{effect-within}
-use Rattle.newtons.proofs.Numbers.{kept}
-use Rattle.effects.proofs.Numbers.{seven-zeros, seven-set}
+use Rattle.newtons.proofs.Word.{kept}
+use Rattle.effects.proofs.Sevens.{seven-zeros, seven-set}
 use Rattle.effects.proofs.Checks.{listed-length, check-taken, check-refused, check-end}
 use borrow.Author.Needs.{needs}
 use Rattle.effects.proofs.check.Statement.{statement}

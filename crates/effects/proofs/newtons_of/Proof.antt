@@ -7,8 +7,8 @@ use lib.ListN.{getD}
 use mir.Syntax.{w64}
 use mir.Val.{toZ, ofZ}
 use Rattle.effects.specs.Check.{newtonsOf}
-use Rattle.newtons.proofs.Numbers.{kept}
-use Rattle.effects.proofs.Numbers.{seven-is}
+use Rattle.newtons.proofs.Word.{kept}
+use Rattle.lists.proofs.Lists.{by-places}
 use borrow.Author.Needs.{needs}
 use Rattle.effects.proofs.newtons_of.Statement.{statement}
 use Rattle.effects.proofs.newtons_of.Tie as tie
@@ -39,7 +39,7 @@ unfolding newtonsOf
 returns c =
     let s = c .before .before .before .before .before .before .before in
     let back : (k : ℕ) → toZ w64 (ofZ w64 (getD (s .args .t1) k (pos 0))) ≡ getD (s .args .t1) k (pos 0) = λ k. kept (s .pre .each k) (lit< tt) in
-    simp (back 0, back 1, back 2, back 3, back 4, back 5, back 6) (sym (seven-is (s .args .t1) (s .pre .count)))
+    simp (back 0, back 1, back 2, back 3, back 4, back 5, back 6) (sym (by-places 7 (s .args .t1) (pos 0) (s .pre .count)))
 
 pub newtons-of-spec : {M : Type 1} → statement M
 newtons-of-spec =

@@ -5,7 +5,7 @@ use Prim.Native.Nat.{_≤_}
 use native.Mathlib.Omega.{arith}
 use Rattle.refusal.specs.Refusal.{numberOf}
 use Rattle.refusal.specs.Said.{said}
-use Rattle.member.specs.Numbers.{between}
+use Rattle.member.specs.Between.{between}
 use Rattle.member.specs.Member.{table4·2, tableFactor, factorOf}
 use Rattle.member.proofs.Tests.{passed, failed, limits}
 use borrow.Author.Needs.{needs}

@@ -1,169 +1,83 @@
--- `newtons::whole_of` meets its contract: each way out is one law of values, at the fields of the bits. Assumes nothing.
-use mathlib.Core.Path.{_≡_, sym, _∙_, ap, subst}
-use mathlib.Core.Bool.{true, false}
-use Prim.Native.Nat.{ℕ, zero, suc, zero-le, _+_, _-_, _*_, _/_, _%_, _^_, _≤_, _<_}
-use native.Mathlib.Nat.{one-mul, lt-of-le-of-lt, lt-of-lt-of-le}
-use native.Mathlib.Omega.{arith}
-use lib.Dec.{leb, lit<, lit≤}
-use lib.Pow.{pow-pos, shl-exact}
-use lib.IntN.{ℤ, pos, negℤ, _-ℤ_, +ℤ-idl}
-use lib.Ieee.{binary64, toBits}
+-- `newtons::whole_of` meets its contract: what is handed on decides, a whole number by the limit. Assumes nothing.
+use mathlib.Core.Path.{_≡_, sym, _∙_, ap}
+use mathlib.Core.Bool.{cond}
+use lib.IntN.{ℤ}
+use lib.Ieee.{Float}
 use mir.Syntax.{w64}
-use mir.Val.{SFits, toZ}
-use mir.ValLaws.{toZ-ofZ, toZ-pos}
-use borrow.Author.Needs.{needs}
-use borrow.Author.Tests.{le-leb, lt-leb}
+use mir.Val.{toZ, ofZ}
+use mir.ValLaws.{toZ-ofZ}
 use Rattle.refusal.specs.Refusal.{numberOf}
-use Rattle.refusal.specs.Told.{gives}
-use Rattle.newtons.specs.Effect.{signed, limit, saidEffect}
-use Rattle.newtons.proofs.Values.{Is, Fields, fields-of, not-nan, nan-value, zero-value, below-one, infinite, large-value, large-beyond, fraction-value, whole-value}
-use Rattle.newtons.proofs.Limits.{effect-not-whole, effect-beyond, effect-whole, effect-signed}
+use Rattle.refusal.specs.Said.{gives, refused}
+use Rattle.newtons.specs.declared.Held.{Held}
+use Rattle.newtons.specs.Effect.{within, effectOf, saidEffect}
+use Rattle.newtons.proofs.Limits.{limitedHeld, effect-held}
+use borrow.Author.Needs.{needs}
 use Rattle.newtons.proofs.whole_of.Statement.{statement}
 use Rattle.newtons.proofs.whole_of.Tie as tie
 
-abbrev bits : tie.Start → ℕ
-bits c = toBits binary64 (c .args .x)
+value-of-requires : tie.Need-value-of-requires
+value-of-requires c κs = search needs
 
-fields : (c : tie.Start) → Fields (c .args .x) (leb (2 ^ 63) (bits c)) (bits c % 2 ^ 63 / 2 ^ 52) (bits c % 2 ^ 52)
-fields c = fields-of (c .args .x) (search needs)
+enum-known-newtons : tie.Need-enum-known-newtons
+enum-known-newtons c = search needs
 
--- the code's 1 << k
-one-is : (k : ℕ) → k < 64 → 1 * 2 ^ k % 2 ^ 64 ≡ 2 ^ k
-one-is k h = shl-exact 1 k 64 (lit< tt) (omega arith) ∙ one-mul (2 ^ k)
+is-within-requires : tie.Need-is-within-requires
+is-within-requires c κs = search needs
 
-one-positive : (k : ℕ) → k < 64 → 0 < 1 * 2 ^ k % 2 ^ 64
-one-positive k h = rw one-is (pow-pos k)
+-- the effect is told by what the value is handed on as
+decides : (c : tie.After-value-of) {v : Held} → c .value-of .result ≡ v → limitedHeld (c .before .args .x) v ≡ effectOf (c .before .args .x)
+decides c e = ap (limitedHeld (c .before .args .x)) (sym e) ∙ (ap (limitedHeld (c .before .args .x)) (c .value-of .ensures) ∙ sym (effect-held (c .before .args .x)))
 
--- both fields are 0 only where the bits but the sign are
-not-zero : (b : ℕ) → (b % 2 ^ 63 ≡ 0 → ⊥) → b % 2 ^ 63 / 2 ^ 52 ≡ 0 → b % 2 ^ 52 ≡ 0 → ⊥
-not-zero b h p q = h (go b p q)
-  where
-    go : (b : ℕ) → b % 2 ^ 63 / 2 ^ 52 ≡ 0 → b % 2 ^ 52 ≡ 0 → b % 2 ^ 63 ≡ 0
-    go b p q = omega arith
+-- where it is a whole number the limit decides
+module _ (c : tie.After-is-within) where
+  abbrev x : Float
+  x = c .before .before .before .before .before .args .x
 
--- a size within the limit as a signed number
-positive-is : (n : ℕ) → n ≤ limit → toZ w64 n ≡ pos n
-positive-is n h = toZ-pos w64 n (lt-of-le-of-lt h (lit< tt))
+  abbrev newtons : ℤ
+  newtons = c .before .before .newtons .given .0 .0
 
-negative-is : (n : ℕ) → n ≤ limit → pos 0 -ℤ toZ w64 n ≡ negℤ (pos n)
-negative-is n h = ap (λ (z : ℤ). pos 0 -ℤ z) (positive-is n h) ∙ +ℤ-idl (negℤ (pos n))
+  same : toZ w64 (ofZ w64 newtons) ≡ newtons
+  same = toZ-ofZ w64 newtons (search needs)
 
-negative-fits : (n : ℕ) → n ≤ limit → SFits w64 (pos 0 -ℤ toZ w64 n)
-negative-fits n h = subst (λ (z : ℤ). SFits w64 z) (sym (negative-is n h)) (go n h)
-  where
-    go : (n : ℕ) → n ≤ limit → SFits w64 (negℤ (pos n))
-    go zero h = record { sfits = lit< tt }
-    go (suc n) h = record { sfits = lt-of-lt-of-le h (lit≤ tt) }
+  tested : within newtons ≡ c .is-within .result
+  tested = ap within (sym same) ∙ sym (c .is-within .ensures)
+
+  limits : cond (within newtons) (gives newtons) (refused 9 x) ≡ effectOf x
+  unfolding limitedHeld
+  limits = decides (c .before .before .before .before) (c .before .before .newtons .given .1)
 
 returns : tie.Need-returns
-unfolding saidEffect numberOf
-returns c = sym (effect-not-whole (nan-value (c .before .args .x) (c .if1 .taken)))
+unfolding saidEffect
+returns c = ap gives (same (c .before)) ∙ (rw (tested (c .before) ∙ c .if1 .taken) at (limits (c .before)))
 
-float-to-bits-bits : tie.Need-float-to-bits-bits
-float-to-bits-bits c = not-nan (c .before .args .x) (c .if1 .left)
+enum-told : tie.Need-enum-told
+enum-told c = search needs
+
+enum-told-2 : tie.Need-enum-told-2
+enum-told-2 c = search needs
 
 returns-2 : tie.Need-returns-2
-unfolding saidEffect
-returns-2 c =
-    let s = c .before .before in
-    sym (effect-whole (s .args .x) (zero-value (fields s) (omega (arith, c .if2 .taken)) (omega (arith, c .if2 .taken))) zero-le)
+unfolding saidEffect numberOf
+returns-2 c = rw (tested (c .before) ∙ c .if1 .left) at (limits (c .before))
 
 returns-3 : tie.Need-returns-3
-unfolding saidEffect numberOf
-returns-3 c =
-    let s = c .before .before .before in
-    sym (effect-not-whole (below-one (fields s) (not-zero (bits s) (c .before .if2 .left)) (c .if3 .taken)))
+unfolding saidEffect numberOf limitedHeld
+returns-3 c = decides (c .before .before) (c .enum-told .given .1)
 
 returns-4 : tie.Need-returns-4
-unfolding saidEffect numberOf
-returns-4 c = sym (effect-not-whole (infinite (fields (c .before .before .before .before)) (c .if4 .taken)))
-
-returns-5 : tie.Need-returns-5
-unfolding saidEffect numberOf
-returns-5 c =
-    let s = c .before .before .before .before .before in
-    sym (effect-beyond (large-value (fields s) (c .if5 .taken) (c .before .if4 .left)) (large-beyond _ _))
-
-add-units : tie.Need-add-units
-add-units c = search needs
-
-shl-one : tie.Need-shl-one
-shl-one c = search needs
-
-rem-if6 : tie.Need-rem-if6
-rem-if6 c = one-positive _ (omega arith)
-
--- past the tests of the exponent
-module _ (c : tie.Else5) where
-  abbrev start : tie.Start
-  start = c .before .before .before .before .before
-
-  abbrev exponent : ℕ
-  exponent = bits start % 2 ^ 63 / 2 ^ 52
-
-  above : 0 < exponent
-  above = omega (arith, c .before .before .if3 .left)
-
-  upto : exponent ≤ 1075
-  upto = c .if5 .left
-
-  one : 1 * 2 ^ (1075 - exponent) % 2 ^ 64 ≡ 2 ^ (1075 - exponent)
-  one = one-is (1075 - exponent) (omega (arith, c .before .before .if3 .left))
-
-returns-6 : tie.Need-returns-6
-unfolding saidEffect numberOf
-returns-6 c = let d = c .before in sym (effect-not-whole (fraction-value (fields (start d)) (above d) (upto d) (one d) (λ q. omega (arith, c .if6 .taken))))
-
--- the size is whole
-is : (c : tie.Else6) → Is (start (c .before) .args .x) (leb (2 ^ 63) (bits (start (c .before)))) ((2 ^ 52 + bits (start (c .before)) % 2 ^ 52) / (1 * 2 ^ (1075 - exponent (c .before)) % 2 ^ 64))
-is c = let d = c .before in whole-value (fields (start d)) (above d) (upto d) (one d) (omega (arith, c .if6 .left))
-
-div-size : tie.Need-div-size
-div-size c = one-positive _ (omega arith)
-
-returns-7 : tie.Need-returns-7
-unfolding saidEffect numberOf
-returns-7 c = sym (effect-beyond (is (c .before)) (omega (arith, c .if7 .taken)))
-
-cast-t10 : tie.Need-cast-t10
-cast-t10 c = search needs
-
-sub-t11 : tie.Need-sub-t11
-sub-t11 c = negative-fits _ (c .before .if7 .left)
-
-returns-8 : tie.Need-returns-8
-unfolding saidEffect signed
-returns-8 c =
-    let l = c .before .if7 .left in
-    ap gives (toZ-ofZ w64 _ (negative-fits _ l) ∙ negative-is _ l) ∙ sym (effect-signed (is (c .before .before)) l true (le-leb _ _ (c .if8 .taken)))
-
-cast-t12 : tie.Need-cast-t12
-cast-t12 c = search needs
-
-returns-9 : tie.Need-returns-9
-unfolding saidEffect signed
-returns-9 c =
-    let l = c .before .if7 .left in
-    ap gives (positive-is _ l) ∙ sym (effect-signed (is (c .before .before)) l false (lt-leb _ _ (c .if8 .left)))
+unfolding saidEffect numberOf limitedHeld
+returns-4 c = decides (c .before .before) (c .enum-told2 .given .1)
 
 pub whole-of-spec : {M : Type 1} → statement M
 whole-of-spec =
     tie.close
     (tie.spec
+    value-of-requires
+    enum-known-newtons
+    is-within-requires
     returns
-    float-to-bits-bits
+    enum-told
+    enum-told-2
     returns-2
     returns-3
-    returns-4
-    returns-5
-    add-units
-    shl-one
-    rem-if6
-    returns-6
-    div-size
-    returns-7
-    cast-t10
-    sub-t11
-    returns-8
-    cast-t12
-    returns-9)
+    returns-4)

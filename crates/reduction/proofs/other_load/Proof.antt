@@ -4,7 +4,7 @@ use mathlib.Core.Bool.{Bool, true, false}
 use native.Mathlib.Omega.{arith}
 use Rattle.refusal.specs.Refusal.{numberOf}
 use Rattle.refusal.specs.Said.{said}
-use Rattle.member.specs.Numbers.{between}
+use Rattle.member.specs.Between.{between}
 use Rattle.member.specs.Line.{isFormula}
 use Rattle.reduction.specs.Reduced.{reducedOf}
 use Rattle.member.proofs.Tests.{passed, failed, limits}

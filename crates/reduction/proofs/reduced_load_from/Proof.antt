@@ -6,10 +6,10 @@ use native.Mathlib.Omega.{arith}
 use Rattle.refusal.specs.Said.{said}
 use Rattle.reduction.specs.declared.share.Share.{Share}
 use Rattle.member.specs.Line.{isFormula}
-use Rattle.member.specs.Numbers.{between}
+use Rattle.member.specs.Between.{between}
 use Rattle.reduction.specs.Share.{shareOf}
 use Rattle.reduction.specs.Reduced.{reducedOf}
-use Rattle.reduction.specs.Fit.{Fit}
+use Rattle.reduction.specs.ShareBounds.{Fit}
 use Rattle.member.proofs.Tests.{passed, failed, limits, in-limits}
 use Rattle.reduction.proofs.Fits.{formula-class, formula-load, share-fits}
 use Rattle.reduction.proofs.Twentieths.{share-formula}

@@ -3,7 +3,7 @@ use mathlib.Core.Path.{refl, subst⁻¹}
 use native.Mathlib.Omega.{arith}
 use lib.ListN.{length}
 use Rattle.sheet.specs.Sheet.{offendingOf, offendingAt}
-use Rattle.sheet.proofs.Places.{PartOf, read-part}
+use Rattle.sheet.proofs.ReadOn.{PartOf, read-part}
 use borrow.Author.Needs.{needs}
 use Rattle.sheet.proofs.offending.Statement.{statement}
 use Rattle.sheet.proofs.offending.Tie as tie

@@ -3,14 +3,15 @@ use mathlib.Core.Path.{_≡_, sym, _∙_, ap, subst⁻¹}
 use mathlib.Core.List.{List}
 use Prim.Native.Nat.{ℕ, _≤_, _<_, _-_, _+_}
 use native.Mathlib.Omega.{arith}
-use lib.ListN.{length, drop, length-drop}
+use lib.ListN.{length, drop}
 use borrow.Author.Tests.{lt-ltb, eq-eqb, ne-eqb}
 use Rattle.refusal.specs.Refusal.{numberOf}
-use Rattle.sheet.specs.Lines.{split}
+use Rattle.text.specs.Lines.{split}
 use Rattle.sheet.specs.Sheet.{Draft, Taken, unread, lineTaken, reading, ifRead, readFrom, readSheet}
 use Rattle.sheet.specs.InPlace.{draftOf}
+use Rattle.text.proofs.LineEnd.{end-most}
 use Rattle.sheet.proofs.Kept.{Kept, unread-kept, line-kept, line-refused}
-use Rattle.sheet.proofs.Places.{index-most, read-end, read-short, read-line, read-start, promised}
+use Rattle.sheet.proofs.ReadOn.{read-end, read-short, read-line, read-start, promised}
 use borrow.Author.Needs.{needs}
 use Rattle.sheet.proofs.read_in.Statement.{statement}
 use Rattle.sheet.proofs.read_in.Tie as tie
@@ -28,7 +29,7 @@ within : (c : tie.Else2 Inv-loop μ-loop)
 within c =
     let text = c .before .before .before .before .before .before .before .args .text .now in
     let at = c .before .before .before .loop .at in
-    omega (arith, c .before .line-end .ensures, c .if2 .left, index-most (drop at text), length-drop at text)
+    omega (arith, c .before .line-end .ensures, c .if2 .left, end-most text at (c .before .before .before .loop .inv .1 .1 .0))
 
 -- nothing is read at the start
 begun : (c : tie.After-unread Inv-loop μ-loop) → draftOf (c .unread .result) (c .before .before .args .held .now) ≡ unread
@@ -104,7 +105,7 @@ returns-3 c =
     let l = f .before .before .loop in
     let text = f .before .before .before .before .before .before .args .text .now in
     let d = draftOf (l .progress) (l .held) in
-    let on = read-line text (l .line) (l .at) d (f .line-end .result) (f .line-end .ensures) (within (c .before .before .before .before .before .before) .1) in
+    let on = read-line text (l .line) (l .at) d (f .line-end .result) (l .inv .1 .1 .0) (f .line-end .ensures) (within (c .before .before .before .before .before .before) .1) in
     let e : readSheet text ≡ reading (t .result .number) (l .line + 1) (l .at) (f .line-end .result) d =
     read-start text (l .inv .1 .1 .1 .1) ∙ (l .inv .0 ∙ (on ∙ rw (← t .ensures, ne-eqb _ _ (c .before .if3 .taken)))) in
     let refused : lineTaken d _ .number ≡ 0 → ⊥ = λ z. c .before .if3 .taken (ap (λ (k : Taken). k .number) (t .ensures) ∙ z) in
@@ -129,7 +130,7 @@ loop-again c =
     let text = f .before .before .before .before .before .before .args .text .now in
     let d = draftOf (l .progress) (l .held) in
     let in-text = within (c .before .before .before .before .before .before) in
-    let on = read-line text (l .line) (l .at) d (f .line-end .result) (f .line-end .ensures) (in-text .1) in (
+    let on = read-line text (l .line) (l .at) d (f .line-end .result) (l .inv .1 .1 .0) (f .line-end .ensures) (in-text .1) in (
       l .inv .0 ∙ (on ∙ rw (← t .ensures, eq-eqb _ _ (c .before .if3 .left))),
       (subst⁻¹ (λ (k : Taken). Kept (k .draft)) (t .ensures) (line-kept d _ (l .inv .1 .0)), omega arith),
     )

@@ -1,11 +1,11 @@
 -- `text::put_text` meets its contract: what is copied into the rest of the buffer stands in the buffer from the index on. Assumes nothing.
-use mathlib.Core.Path.{_≡_, refl, sym, _∙_}
+use mathlib.Core.Path.{_≡_, sym, _∙_, ap}
 use mathlib.Core.List.{List, _++_, append-nil, append-assoc}
 use Prim.Native.Nat.{ℕ, _+_, _-_, _≤_}
 use native.Mathlib.Omega.{arith}
 use lib.ListN.{length, take, drop, length-drop, drop-of-length-le}
 use lib.Seq.{sets, sets-eq, take-all, take-length, drop-drop}
-use Rattle.text.specs.Put.{putIn, putEnd}
+use Rattle.text.specs.Put.{out, putOne, puts}
 use borrow.Author.Needs.{needs}
 use borrow.Author.Tests.{le-leb, lt-leb}
 use Rattle.text.proofs.put_text.Statement.{statement}
@@ -20,21 +20,21 @@ copied l text at room =
     (sym (append-assoc (take at l) text (drop (at + length text) l)) ∙ sym (sets-eq text l at room))
 
 returns : tie.Need-returns
-unfolding putIn putEnd
+unfolding putOne puts
 returns c =
     let s = c .before .before .before in
     let no = lt-leb (s .args .at + length (s .args .text .now)) (length (s .args .buffer .now)) (omega arith) in
-    rw no (refl, refl)
+    rw no
 
 sub-if2 : tie.Need-sub-if2
 sub-if2 c = search needs
 
 returns-2 : tie.Need-returns-2
-unfolding putIn putEnd
+unfolding putOne puts
 returns-2 c =
     let s = c .before .before .before .before in
     let no = lt-leb (s .args .at + length (s .args .text .now)) (length (s .args .buffer .now)) (omega arith) in
-    rw no (refl, refl)
+    rw no
 
 sub-copy : tie.Need-sub-copy
 sub-copy c = search needs
@@ -55,12 +55,12 @@ same-length : tie.Need-same-length
 same-length c = search needs
 
 returns-3 : tie.Need-returns-3
-unfolding putIn putEnd
+unfolding putOne puts
 returns-3 c =
     let s = c .before .before .before .before .before .before .before .before in
     let room : s .args .at + length (s .args .text .now) ≤ length (s .args .buffer .now) = omega arith in
     rw (le-leb _ _ room, c .before .before .copy .ensures .0, c .before .before .copy .ensures .1)
-    (refl, copied (s .args .buffer .now) (s .args .text .now) (s .args .at) room)
+    (ap (λ (b : List ℕ). out b (s .args .at + length (s .args .text .now))) (copied (s .args .buffer .now) (s .args .text .now) (s .args .at) room))
 
 pub put-text-spec : {M : Type 1} → statement M
 put-text-spec =

@@ -5,7 +5,7 @@ use native.Mathlib.Omega.{arith}
 use lib.Dec.{leb, ltb}
 use borrow.Author.Tests.{le-leb, lt-leb, lt-ltb, le-ltb}
 use Rattle.refusal.specs.Refusal.{numberOf}
-use Rattle.member.specs.Numbers.{between}
+use Rattle.member.specs.Between.{between}
 use Rattle.member.proofs.Tests.{passed, failed}
 use Rattle.column.specs.Accepted.{firstCondition}
 use borrow.Author.Needs.{needs}

@@ -8,8 +8,8 @@ use lib.ListN.{getD, drop}
 use mir.Syntax.{w64}
 use mir.Val.{toZ, ofZ}
 use Rattle.combination.specs.Governing.{sumOf}
-use Rattle.newtons.proofs.Numbers.{small-fits, kept}
-use Rattle.combination.proofs.Sums.{factor-kept, mostProduct, mostSum, size-product, sum-small, sum-from, sum-end}
+use Rattle.newtons.proofs.Word.{small-fits, kept}
+use Rattle.combination.proofs.RowSums.{factor-kept, mostProduct, mostSum, size-product, sum-small, sum-from, sum-end}
 use borrow.Author.Needs.{needs}
 use Rattle.combination.proofs.search.sum_of.Statement.{statement}
 use Rattle.combination.proofs.search.sum_of.Tie as tie

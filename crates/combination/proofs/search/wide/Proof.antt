@@ -1,7 +1,7 @@
 -- `combination::search::wide` meets its contract: eight bits keep a factor. Assumes nothing.
 use lib.Dec.{lit<}
-use Rattle.newtons.proofs.Numbers.{small-fits, kept}
-use Rattle.combination.proofs.Sums.{factor-kept}
+use Rattle.newtons.proofs.Word.{small-fits, kept}
+use Rattle.combination.proofs.RowSums.{factor-kept}
 use Rattle.combination.proofs.search.wide.Statement.{statement}
 use Rattle.combination.proofs.search.wide.Tie as tie
 

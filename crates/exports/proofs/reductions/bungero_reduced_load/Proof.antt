@@ -2,7 +2,7 @@
 use mathlib.Core.Path.{sym, _∙_, ap}
 use Prim.Native.Nat.{ℕ}
 use Rattle.refusal.specs.declared.Answer.{Answer}
-use Rattle.refusal.specs.Said.{refused, said}
+use Rattle.refusal.specs.Said.{refused, said, nothing}
 use Rattle.exports.specs.Exported.{shownReduced}
 use borrow.Author.Needs.{needs}
 use Rattle.exports.proofs.reductions.bungero_reduced_load.Statement.{statement}
@@ -27,7 +27,7 @@ returns c = ap (λ (a : Answer). shownReduced (said a)) (sym (c .before .answer 
 returns-2 : tie.Need-returns-2
 unfolding shownReduced said
 returns-2 c =
-    ap (λ (n : ℕ). shownReduced (refused n)) (c .number .ensures)
+    ap (λ (n : ℕ). shownReduced (refused n nothing)) (c .number .ensures)
     ∙ (ap (λ (a : Answer). shownReduced (said a)) (sym (c .before .before .answer2 .given .1)) ∙ ap shownReduced (c .before .before .before .before .reduced-load .ensures))
 
 pub bungero-reduced-load-spec : {M : Type 1} → statement M

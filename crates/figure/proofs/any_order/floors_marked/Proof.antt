@@ -15,7 +15,7 @@ use Rattle.column.specs.declared.Line.{Line}
 use Rattle.column.specs.Sound.{InLimits, linesBetween}
 use Rattle.column.proofs.Lines.{between-none, between-next}
 use Rattle.figure.specs.Carried.{hasFloor, floorsOf}
-use Rattle.figure.proofs.Places.{room, held-at}
+use Rattle.figure.proofs.HeldLines.{room, held-at}
 use borrow.Author.Needs.{needs}
 use Rattle.figure.proofs.any_order.floors_marked.Statement.{statement}
 use Rattle.figure.proofs.any_order.floors_marked.Tie as tie

@@ -12,7 +12,7 @@ use Rattle.figure.specs.Asked.{workingOf, askedOf, saidWorking}
 use Rattle.figure.specs.Rates.{sharesAt, Shared}
 use Rattle.figure.proofs.Carried.{area-total}
 use Rattle.figure.proofs.Order.{reached-ordered}
-use Rattle.figure.proofs.Places.{held-before, order-before}
+use Rattle.figure.proofs.HeldLines.{held-before, order-before}
 use borrow.Author.Needs.{needs}
 use Rattle.figure.proofs.at_floor.asked_at.Statement.{statement}
 use Rattle.figure.proofs.at_floor.asked_at.Tie as tie

@@ -17,7 +17,7 @@ use Rattle.column.proofs.Lines.{between-more}
 use Rattle.figure.specs.Carried.{floorsOf}
 use Rattle.figure.specs.Totals.{DownTo, Ordered}
 use Rattle.figure.proofs.Carried.{Other, floors-run, floors-twice}
-use Rattle.figure.proofs.Places.{room, above-at, above-to}
+use Rattle.figure.proofs.HeldLines.{room, above-at, above-to}
 use Rattle.figure.proofs.at_floor.floors_before.Statement.{statement}
 use Rattle.figure.proofs.at_floor.floors_before.Tie as tie
 

@@ -12,7 +12,7 @@ use Rattle.column.proofs.Lines.{between-none, between-next, between-split}
 use Rattle.figure.specs.Carried.{carried}
 use Rattle.figure.specs.Totals.{DownTo, Below, Ordered, FrontOf}
 use Rattle.figure.proofs.Carried.{Other, has-none, has-in, carried-front}
-use Rattle.figure.proofs.Places.{room, line-between, above-to}
+use Rattle.figure.proofs.HeldLines.{room, line-between, above-to}
 use Rattle.figure.proofs.at_floor.lines_at.Statement.{statement}
 use Rattle.figure.proofs.at_floor.lines_at.Tie as tie
 

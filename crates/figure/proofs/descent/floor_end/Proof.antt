@@ -9,7 +9,7 @@ use Rattle.column.specs.declared.Line.{Line}
 use Rattle.column.specs.Sound.{linesBetween}
 use Rattle.column.proofs.Lines.{between-none, between-more}
 use Rattle.figure.specs.Totals.{At}
-use Rattle.figure.proofs.Places.{room}
+use Rattle.figure.proofs.HeldLines.{room}
 use Rattle.figure.proofs.descent.floor_end.Statement.{statement}
 use Rattle.figure.proofs.descent.floor_end.Tie as tie
 

@@ -10,7 +10,7 @@ use lib.Signed.{ltZ, nonNeg}
 use mir.Syntax.{w64}
 use mir.Val.{Fits, SFits, toZ, ofZ}
 use mir.ValLaws.{toZ-ofZ}
-use Rattle.newtons.proofs.Numbers.{size-neg, small-fits, kept}
+use Rattle.newtons.proofs.Word.{size-neg, small-fits, kept}
 use borrow.Author.Needs.{needs}
 use borrow.Author.Tests.{le-ltb}
 use Rattle.newtons.proofs.signed.magnitude.Statement.{statement}

@@ -4,7 +4,7 @@ use Prim.Native.Nat.{ℕ, _*_, _-_, _≤_}
 use native.Mathlib.Nat.{mul-le-mul}
 use native.Mathlib.Omega.{arith}
 use borrow.Author.Tests.{le-leb, lt-leb}
-use Rattle.reduction.specs.Numbers.{sq}
+use Rattle.reduction.specs.Least.{sq}
 use Rattle.reduction.specs.Reduced.{reaches}
 use Rattle.reduction.proofs.Fits.{fit-root}
 use borrow.Author.Needs.{needs}

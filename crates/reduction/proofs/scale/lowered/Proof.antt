@@ -2,7 +2,7 @@
 use Prim.Native.Nat.{_*_, _≤_, _<_}
 use native.Mathlib.Nat.{mul-le-mul, lt-of-not-le}
 use native.Mathlib.Omega.{arith}
-use Rattle.reduction.specs.Numbers.{sq}
+use Rattle.reduction.specs.Least.{sq}
 use Rattle.reduction.specs.Scale.{rootScale}
 use Rattle.reduction.proofs.Squares.{sq-le}
 use Rattle.reduction.proofs.Scales.{scale-fits, fits-scale}

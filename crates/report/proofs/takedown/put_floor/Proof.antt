@@ -1,18 +1,17 @@
 -- `report::takedown::put_floor` meets its contract: its n tells whether it has a line. Assumes nothing.
 use borrow.Author.Tests.{eq-eqb, ne-eqb}
-use Rattle.text.proofs.Puts.{put-none}
+use Rattle.text.specs.Put.{puts}
 use Rattle.report.specs.Table.{lineOf}
 use borrow.Author.Needs.{needs}
 use Rattle.report.proofs.takedown.put_floor.Statement.{statement}
 use Rattle.report.proofs.takedown.put_floor.Tie as tie
 
 returns : tie.Need-returns
-unfolding lineOf
-returns c = rw (eq-eqb _ _ (c .if1 .taken)) (put-none (c .before .before .before .args .out .now) (c .before .before .before .args .at))
+unfolding lineOf puts
+returns c = rw (eq-eqb _ _ (c .if1 .taken))
 
 put-floor-line-requires : tie.Need-put-floor-line-requires
-unfolding lineOf
-put-floor-line-requires c κs = rw (ne-eqb _ _ (c .before .if1 .left)) at (c .before .before .before .before .pre)
+put-floor-line-requires c κs = search needs
 
 same-length : tie.Need-same-length
 same-length c = search needs

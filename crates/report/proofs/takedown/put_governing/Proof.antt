@@ -1,74 +1,54 @@
--- `report::takedown::put_governing` meets its contract: combining whole effects within the limit gives the rows that govern. Assumes nothing.
+-- `report::takedown::put_governing` meets its contract: whole effects within the limit have governing rows. Assumes nothing.
 use mathlib.Core.Path.{_≡_, sym, _∙_, ap}
-use Prim.Native.Nat.{ℕ, _+_, _≤_}
+use Prim.Native.Nat.{ℕ}
 use native.Mathlib.Omega.{arith}
-use lib.ListN.{length}
-use Rattle.text.specs.Text.{bytesOf}
-use Rattle.text.proofs.Puts.{put-then, put-left}
-use Rattle.refusal.specs.Told.{gives}
+use Rattle.text.proofs.Puts.{puts-then}
+use Rattle.refusal.specs.Said.{gives}
 use Rattle.effects.specs.Check.{newtonsOf}
-use Rattle.combination.specs.Combine.{governing, combinedOf, saidCombined}
-use Rattle.combination.proofs.Answers.{newtons-combined}
-use Rattle.report.specs.Report.{effectsWith, governingLine, governingLines}
-use Rattle.report.proofs.Lengths.{governing-length, governings-length}
+use Rattle.combination.specs.Combine.{governing, governedOf, saidGoverned}
+use Rattle.combination.proofs.Answers.{newtons-governed}
+use Rattle.report.specs.Report.{effectsWith, governingLines}
 use Rattle.report.proofs.Live.{seven-with}
 use borrow.Author.Needs.{needs}
 use Rattle.report.proofs.takedown.put_governing.Statement.{statement}
 use Rattle.report.proofs.takedown.put_governing.Tie as tie
 
--- combining gives the rows that govern the sheet's effects
-answered : (c : tie.After-combine)
-    → saidCombined (c .combine .result) ≡ gives (governing (newtonsOf (effectsWith (c .before .before .before .args .effects) (c .before .before .before .args .live))))
+-- the rows that govern the sheet's effects
+answered : (c : tie.After-govern)
+    → saidGoverned (c .govern .result) ≡ gives (governing (newtonsOf (effectsWith (c .before .before .before .args .effects) (c .before .before .before .args .live))))
 answered c =
     let s = c .before .before .before in
-    c .combine .ensures .0
-    ∙ (ap combinedOf (c .before .doubles-of .ensures) ∙ newtons-combined (effectsWith (s .args .effects) (s .args .live)) (seven-with (s .args .effects) (s .args .live) (s .pre .0) (s .pre .1)))
+    c .govern .ensures .0
+    ∙ (ap governedOf (c .before .newtons-with .ensures) ∙ newtons-governed (effectsWith (s .args .effects) (s .args .live)) (seven-with (s .args .effects) (s .args .live) (s .pre .0) (s .pre .1)))
 
-given : (c : tie.After-combined)
+given : (c : tie.After-governed)
     → let s = c .before .before .before .before .before in
-    c .combined .given .0 .0 ≡ governing (newtonsOf (effectsWith (s .args .effects) (s .args .live)))
-unfolding saidCombined
+    c .governed .given .0 .0 ≡ governing (newtonsOf (effectsWith (s .args .effects) (s .args .live)))
+unfolding saidGoverned
 given c =
-    let e = sym (ap saidCombined (c .combined .given .1)) ∙ answered (c .before .before) in
+    let e = sym (ap saidGoverned (c .governed .given .1)) ∙ answered (c .before .before) in
     cc
 
--- there is room for the lines of both
-room : (c : tie.After-combined)
-    → let s = c .before .before .before .before .before in
-    let g = c .combined .given .0 .0 in
-    s .args .at + (length (governingLine (bytesOf "max=") (g .greatest)) + length (governingLine (bytesOf "min=") (g .least))) ≤ length (s .args .out .now)
-room c =
-    let g = c .combined .given .0 .0 in
-    omega (
-      arith,
-      rw (← given c) at (c .before .before .before .before .before .pre .2),
-      governings-length g,
-      governing-length (bytesOf "max=") (g .greatest),
-      governing-length (bytesOf "min=") (g .least),
-    )
+newtons-with-requires : tie.Need-newtons-with-requires
+newtons-with-requires c κs = search needs
 
-doubles-of-requires : tie.Need-doubles-of-requires
-doubles-of-requires c κs = search needs
+govern-requires : tie.Need-govern-requires
+govern-requires c κs = search needs
 
-combine-requires : tie.Need-combine-requires
-combine-requires c κs = search needs
-
-enum-known-combined : tie.Need-enum-known-combined
-enum-known-combined c = search needs
+enum-known-governed : tie.Need-enum-known-governed
+enum-known-governed c = search needs
 
 slice-aggregate-put-governing-line : tie.Need-slice-aggregate-put-governing-line
 slice-aggregate-put-governing-line c = search needs
 
 put-governing-line-requires : tie.Need-put-governing-line-requires
-put-governing-line-requires c κs = omega (arith, room (c .before .before .before .before .before))
+put-governing-line-requires c κs = search needs
 
 slice-aggregate-put-governing-line-2 : tie.Need-slice-aggregate-put-governing-line-2
 slice-aggregate-put-governing-line-2 c = search needs
 
 put-governing-line-requires-2 : tie.Need-put-governing-line-requires-2
-put-governing-line-requires-2 c κs =
-    let one = c .before .before .before .before in
-    omega (arith, room (one .before .before .before .before .before .before), put-left (one .put-governing-line .ensures))
+put-governing-line-requires-2 c κs = search needs
 
 enum-told : tie.Need-enum-told
 enum-told c = search needs
@@ -78,14 +58,12 @@ same-length c = search needs
 
 returns : tie.Need-returns
 unfolding governingLines
-returns c =
-    let one = c .before .before .before .before .before .before .before in
-    rw (← given (one .before .before .before .before .before .before)) (put-then (one .put-governing-line .ensures) (c .before .before .put-governing-line2 .ensures))
+returns c = rw (← given (c .before .before .before .before .before .before .before .before .before .before .before .before .before)) (puts-then _ _ _ _ (c .before .before .before .before .before .before .before .put-governing-line .ensures) (c .before .before .put-governing-line2 .ensures))
 
 returns-2 : tie.Need-returns-2
-unfolding saidCombined
+unfolding saidGoverned
 returns-2 c =
-    let e = sym (ap saidCombined (c .enum-told .given .1)) ∙ answered (c .before .before) in
+    let e = sym (ap saidGoverned (c .enum-told .given .1)) ∙ answered (c .before .before) in
     let z : _≡_ {A = ℕ} 0 1 = cc in
     absurd (omega arith)
 
@@ -93,9 +71,9 @@ pub put-governing-spec : {M : Type 1} → statement M
 put-governing-spec =
     tie.close
     (tie.spec
-    doubles-of-requires
-    combine-requires
-    enum-known-combined
+    newtons-with-requires
+    govern-requires
+    enum-known-governed
     slice-aggregate-put-governing-line
     put-governing-line-requires
     slice-aggregate-put-governing-line-2

@@ -1,14 +1,10 @@
 -- `report::takedown::put_takedown` meets its contract: the floors, and then the rows that govern. Assumes nothing.
 use mathlib.Core.Path.{_≡_, _∙_, ap}
-use Prim.Native.Nat.{ℕ, _+_, _/_, _≤_}
-use native.Mathlib.Omega.{arith}
-use lib.ListN.{length, length-append}
-use Rattle.text.proofs.Puts.{put-then, put-left}
+use Prim.Native.Nat.{ℕ, _+_, _/_}
+use Rattle.text.proofs.Puts.{puts-then}
 use Rattle.figure.proofs.Lowest.{lowest-most}
-use Rattle.effects.specs.Check.{newtonsOf}
-use Rattle.combination.specs.Combine.{governing}
 use Rattle.sheet.specs.declared.Sheet.{Sheet}
-use Rattle.report.specs.Report.{floorLines, liveOf, effectsOf, governingLines, takedownOf}
+use Rattle.report.specs.Report.{liveOf, effectsOf, takedownOf}
 use Rattle.report.proofs.Table.{table-lines}
 use borrow.Author.Needs.{needs}
 use Rattle.report.proofs.takedown.put_takedown.Statement.{statement}
@@ -26,31 +22,17 @@ live-known : (c : tie.After-live-effect) → c .live-effect .result ≡ liveOf (
 unfolding liveOf
 live-known c = c .live-effect .ensures .0 ∙ ap (λ (n : ℕ). (n + 99) / 100) (c .before .work-out .ensures .1)
 
--- there is room for the floors and the rows
-room : (s : tie.Start)
-    → length (floorLines (sheet s .column) 64) + length (governingLines (governing (newtonsOf (effectsOf (sheet s))))) ≤ length (s .args .out .now)
-unfolding takedownOf
-room s = omega (arith, s .pre .1, length-append (floorLines (sheet s .column) 64) (governingLines (governing (newtonsOf (effectsOf (sheet s))))))
-
 work-out-requires : tie.Need-work-out-requires
 work-out-requires c κs = search needs
 
 live-effect-requires : tie.Need-live-effect-requires
-live-effect-requires c κs = rw (c .work-out .ensures .1) (lowest-most (start c .pre .0 .column))
+live-effect-requires c κs = rw (c .work-out .ensures .1) (lowest-most (start c .pre .column))
 
 put-floors-requires : tie.Need-put-floors-requires
-put-floors-requires c κs =
-    let w = c .before .before .before in
-    rw (w .work-out .ensures .0, table-lines (sheet (start w) .column)) (omega (arith, room (start w)))
+put-floors-requires c κs = search needs
 
 put-governing-requires : tie.Need-put-governing-requires
-unfolding effectsOf
-put-governing-requires c κs =
-    let floors = c .before .before .before in
-    let live = floors .before .before .before in
-    let s = start (live .before) in
-    let put = rw (live .before .work-out .ensures .0, table-lines (sheet s .column)) at (floors .put-floors .ensures) in
-    (s .pre .0 .effects, live .live-effect .ensures .1, rw (live-known live) (omega (arith, room s, put-left put)))
+put-governing-requires c κs = search needs
 
 same-length : tie.Need-same-length
 same-length c = search needs
@@ -61,7 +43,7 @@ returns c =
     let floors = c .before .before .before .before .before .before in
     let live = floors .before .before .before in
     let put = rw (live .before .work-out .ensures .0, table-lines (sheet (start (live .before)) .column)) at (floors .put-floors .ensures) in
-    put-then put (rw (live-known live) at (c .before .before .put-governing .ensures))
+    puts-then _ _ _ _ put (rw (live-known live) at (c .before .before .put-governing .ensures))
 
 pub put-takedown-spec : {M : Type 1} → statement M
 put-takedown-spec =

@@ -6,7 +6,7 @@ use Rattle.column.specs.declared.Column.{Column}
 use Rattle.column.specs.declared.Outcome.{Outcome}
 use Rattle.column.specs.Column.{columnFrom, enteredOf, joinedOutcome}
 use Rattle.column.proofs.Reach.{entered-refused}
-use Rattle.form.specs.declared.Due.the-variants.{FloorOrDead}
+use Rattle.sheet_lines.specs.declared.Due.the-variants as D
 use Rattle.sheet.specs.Sheet.{ifTaken, valued}
 use borrow.Author.Needs.{needs}
 use Rattle.sheet.proofs.steps.enter_line.Statement.{statement}
@@ -42,7 +42,7 @@ returns-2 c =
     let zero : enteredOf (col s) (s .args .line) .number ≡ 0 = number-is v ∙ t .if1 .left in
     let is = ap (λ (o : Outcome). o .column) (v .enter-in .ensures .0) in
     rw zero
-    (ap (λ (d : Column). record { number = 0; draft = record { due = FloorOrDead; sheet = record { column = d; effects = s .args .progress .effects } } }) is)
+    (ap (λ (d : Column). record { number = 0; draft = record { due = D.Effect 0; sheet = record { column = d; effects = s .args .progress .effects } } }) is)
 
 pub enter-line-spec : {M : Type 1} → statement M
 enter-line-spec = tie.close (tie.spec enter-in-requires returns returns-2)

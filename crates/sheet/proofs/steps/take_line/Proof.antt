@@ -4,11 +4,10 @@ use lib.IntN.{ℤ}
 use mir.Syntax.{w64}
 use mir.Facts.{toZ-ofZ}
 use Rattle.refusal.specs.Refusal.{numberOf}
-use Rattle.form.specs.declared.Form.the-variants.{Effect}
-use Rattle.form.proofs.Only.{member-due}
+use Rattle.sheet_lines.specs.declared.Form.the-variants.{Effect}
 use Rattle.sheet.specs.Sheet.{ifTaken, valued, lineTaken}
 use Rattle.sheet.specs.InPlace.{draftOf}
-use Rattle.sheet.proofs.Kept.{Later, opened-before}
+use Rattle.sheet.proofs.Kept.{Ready, line-ready}
 use borrow.Author.Needs.{needs}
 use Rattle.sheet.proofs.steps.take_line.Statement.{statement}
 use Rattle.sheet.proofs.steps.take_line.Tie as tie
@@ -26,16 +25,19 @@ enum-known-form-2 : tie.Need-enum-known-form-2
 enum-known-form-2 c = search needs
 
 enter-line-requires : tie.Need-enter-line-requires
-unfolding Later
+unfolding Ready
 enter-line-requires c κs =
     let s = c .before .before .before .before .before .before in
-    opened-before (draftOf (s .args .progress) (s .args .held .now)) (s .args .line .now) _ (sym (c .before .before .before .before .form-of .ensures) ∙ c .before .before .form2 .given .1) (s .pre) tt
+    line-ready (draftOf (s .args .progress) (s .args .held .now)) (s .args .line .now) (sym (c .before .before .before .before .form-of .ensures) ∙ c .before .before .form2 .given .1) (s .pre)
 
 enum-known-form-3 : tie.Need-enum-known-form-3
 enum-known-form-3 c = search needs
 
 take-effect-requires : tie.Need-take-effect-requires
-take-effect-requires c κs = search needs
+unfolding Ready
+take-effect-requires c κs =
+    let s = c .before .before .before .before .before in
+    line-ready (draftOf (s .args .progress) (s .args .held .now)) (s .args .line .now) (sym (c .before .before .before .form-of .ensures) ∙ c .before .form3 .given .1) (s .pre) .0
 
 enum-told : tie.Need-enum-told
 enum-told c = search needs
@@ -44,13 +46,13 @@ number-requires : tie.Need-number-requires
 number-requires c κs = search needs
 
 returns : tie.Need-returns
-unfolding lineTaken valued
+unfolding lineTaken valued Ready
 returns c =
     let f = c .before .before .before .before in
     let s = f .before .before in
     let d = draftOf (s .args .progress) (s .args .held .now) in
     let e = sym (c .before .before .form .given .1) ∙ f .form-of .ensures in
-    c .open-member .ensures (s .args .held .now) (s .pre .before (member-due _ (s .args .line .now) (s .args .progress .due) (sym e))) ∙ ap (valued d) e
+    c .open-member .ensures (s .args .held .now) (line-ready d (s .args .line .now) (sym e) (s .pre)) ∙ ap (valued d) e
 
 returns-2 : tie.Need-returns-2
 unfolding lineTaken
@@ -66,7 +68,7 @@ returns-3 c =
     let s = f .before .before in
     let d = draftOf (s .args .progress) (s .args .held .now) in
     c .take-effect .ensures (s .args .held .now)
-    ∙ (ap (λ (z : ℤ). valued d (Effect z)) (toZ-ofZ {w = w64} (record { sfits = c .before .known-told3 .given .0 .1 })) ∙ ap (valued d) (sym (c .before .before .form3 .given .1) ∙ f .form-of .ensures))
+    ∙ (ap (λ (z : ℤ). valued d (Effect (c .before .before .form3 .given .0 .0) z)) (toZ-ofZ {w = w64} (record { sfits = c .before .known-told3 .given .1 .0 .1 })) ∙ ap (valued d) (sym (c .before .before .form3 .given .1) ∙ f .form-of .ensures))
 
 returns-4 : tie.Need-returns-4
 unfolding lineTaken valued ifTaken numberOf

@@ -1,5 +1,0 @@
--- Laws of the definitions, for the proofs here and in the crates above.
-pub mod Roots
-pub mod Exact
-pub mod Demand3
-pub mod Examples

@@ -1,4 +1,0 @@
--- The definitions of a whole list of entries and of demand 3; paper 01 in its order.
-pub mod Entries
-pub mod Demand3
-pub mod Examples

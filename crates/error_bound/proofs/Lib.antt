@@ -1,0 +1,5 @@
+-- Laws of the definitions, for the proofs here and in the crates above.
+pub mod Roots
+pub mod Exact
+pub mod Claim
+pub mod Examples

@@ -1,3 +1,0 @@
--- Laws of the definitions, for the proofs here and in the crates above.
-pub mod Steps
-pub mod Only

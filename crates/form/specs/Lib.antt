@@ -1,4 +1,0 @@
--- The definitions of the lines of a sheet; paper 01 in its order, then what private functions ask.
-pub mod Number
-pub mod Form
-pub mod Fit

@@ -1,0 +1,2 @@
+-- Why reading stopped.
+pub mod Ending
