@@ -177,8 +177,8 @@ fn check_combinations(count: usize) -> usize {
 // The rows that govern seven effects, or the refused one; doubles are compared bit for bit.
 pub fn check_combination(effects: &[f64; 7]) {
     let proved = bungero::combine((*effects).into());
-    let proved = proved.map(|rows| [rows.greatest, rows.least].map(|row| (row.row, row.tenths, row.double.to_bits())));
-    let proved = proved.map_err(|refused| (refused.number, refused.place, refused.double.to_bits()));
+    let proved = proved.map(|rows| [rows.greatest, rows.least].map(|row| (row.row, row.tenths, row.value.to_bits())));
+    let proved = proved.map_err(|refused| (refused.number, refused.place, refused.value.to_bits()));
     let plain = combine(effects);
     let plain = plain.map(|rows| [rows.greatest, rows.least].map(|row| (row.row, row.tenths, row.double.to_bits())));
     let plain = plain.map_err(|refused| (refused.refusal.number(), refused.place, refused.double.to_bits()));
@@ -202,5 +202,9 @@ fn check_sheets(damaged_ones: usize) -> usize {
 pub fn check_sheet(text: &[u8]) {
     let mut out = Vec::new();
     report(text, &mut out).unwrap();
-    assert!(bungero::report(text).as_bytes() == out, "reporting {}", String::from_utf8_lossy(text));
+    let proved = match bungero::report(text) {
+        Ok(report) => report.as_bytes().to_vec(),
+        Err(refused) => format!("{refused}\n").into_bytes(),
+    };
+    assert!(proved == out, "reporting {}", String::from_utf8_lossy(text));
 }

@@ -24,7 +24,7 @@ fn keep<T>(answer: &T) {
 
 // An entry as the record that the library takes.
 fn record(entry: &Entry) -> bungero::Line {
-    bungero::Line { floor: entry.floor, class: entry.class, load: entry.load, area: entry.area }
+    bungero::Line { floor: entry.floor, use_class: entry.class, load: entry.load, area: entry.area }
 }
 
 // A proved interior column with these lines.
@@ -100,7 +100,7 @@ fn takedown_job(what: &str, text: Vec<u8>) -> Job {
     let same = text.clone();
     let mut room = [0; bungero::REPORT_ROOM];
     let proved = move || {
-        let length = bungero::report_into(black_box(&same), &mut room);
+        let length = bungero::report_into(black_box(&same), &mut room).unwrap();
         black_box(&room[..length]);
     };
     let mut out = Vec::with_capacity(bungero::REPORT_ROOM);

@@ -3,11 +3,24 @@
    What is right is decided by paper 01, "Column live loads by CIRSOC 101, and their combinations". Every call answers every
    input, as the comment on it says; but a column, which bungero_enter and bungero_ask take, must be as these calls gave it. A
    `number` in an answer is 0 where no condition of the paper holds, else the number of the first one that does
-   (`bungero_refusal`); all else in the answer is then 0 unless the comment says otherwise.
+   (`bungero_refusal`); all else in the answer is then 0 unless the comment says otherwise. Where something is refused, a
+   `place` counts the records of a list or the seven effects, a `line` the lines of a sheet, each from 1.
 
    Structs go by value. What is lent by pointer is only read, but for `out` of bungero_report and a column's places in
-   bungero_enter. No call keeps a pointer or anything else, so calls may run in several threads at once, as long as none
-   writes to memory that another uses. */
+   bungero_enter. Lent places and lines must be aligned to 8 bytes; texts and `out` may stand anywhere. Some structs have
+   padding, whose bytes have no value: compare members, not whole structs by memcmp. bungero.rs has the same names.
+
+   No call keeps a pointer or anything else: there is no state, no heap, and no function of the C library is called but memcpy
+   and memset. So calls may run in several threads at once, and in a signal handler, as long as none writes to memory that
+   another uses. No call ends the program or sets errno. A signalling NaN that is handed in raises the invalid flag of the
+   floating-point environment, or its trap where that is set.
+
+   Of the stack each call needs at most, beside its arguments and its answer, and what memcpy and memset need (where they are
+   bound lazily, at their first call the dynamic linker's few KB):
+       bungero_report                                      12,288 bytes
+       bungero_read                                         8,192 bytes
+       bungero_open, bungero_figure_of                      3,072 bytes
+       all others                                             512 bytes */
 #ifndef BUNGERO_H
 #define BUNGERO_H
 
@@ -18,6 +31,17 @@
 #ifdef __cplusplus
 extern "C" {
 #endif
+
+/* The mark of the layout. Every object file that includes this header refers to it, so that one which was compiled for other
+   structs than those of the library does not link. Whoever changes a struct or a call of this header gives the mark the next
+   number, here, in bungero.rs and in crates/exports. The call gives that number. */
+uint64_t bungero_layout_1(void);
+#if defined(__has_attribute)
+#if __has_attribute(retain)
+__attribute__((retain)) /* by a linker that leaves out what is not used, too */
+#endif
+#endif
+__attribute__((used)) static uint64_t (*const bungero_layout)(void) = bungero_layout_1;
 
 /* The bytes of the buffer that bungero_report writes to; no report is longer than 3,960. */
 #define BUNGERO_REPORT_ROOM 4096
@@ -55,8 +79,8 @@ typedef struct bungero_member {
 } bungero_member;
 
 /* A member and its accepted lines, each as one number. Opaque: a caller may copy it whole, and lend it to the calls below, and
-   no more. A column must be one that bungero_open with number 0 gave, changed by bungero_enter alone; of any other nothing is
-   promised. */
+   no more. A column must be one that bungero_open or bungero_read with number 0 gave, changed by bungero_enter alone; of any
+   other nothing is promised. */
 typedef struct bungero_column {
     bungero_member member;
     uint16_t count;
@@ -111,8 +135,8 @@ typedef struct bungero_newtons {
 /* What bungero_check gives. */
 typedef struct bungero_checked {
     uint64_t number;
-    uint64_t place;                /* of the refused effect, 1 (dead) to 7 (quake) */
-    double value;                  /* the refused effect as it came, bit for bit */
+    uint64_t place;                /* of the refused effect, 1 (dead) to 7 (quake); 0 where number is 0 */
+    double value;                  /* its double as it came, bit for bit; 0 where number is 0 */
     bungero_newtons newtons;
 } bungero_checked;
 
@@ -132,25 +156,55 @@ typedef struct bungero_governing {
 /* What bungero_combine gives. */
 typedef struct bungero_combined {
     uint64_t number;
-    uint64_t place;                /* of the refused effect, 1 (dead) to 7 (quake) */
-    double value;                  /* the refused effect as it came, bit for bit */
+    uint64_t place;                /* of the refused effect, 1 (dead) to 7 (quake); 0 where number is 0 */
+    double value;                  /* its double as it came, bit for bit; 0 where number is 0 */
     bungero_governing governing;
 } bungero_combined;
 
-/* Opens a member: for a code of 1 to 12, number 0 and its column without lines. For any other code number 1, and what then
-   stands in the column's place must not be handed to a call. */
+/* The six effects of a sheet in whole newtons; the live effect follows from its column. */
+typedef struct bungero_sheet_effects {
+    int64_t dead, roof, snow, rain, wind, quake;
+} bungero_sheet_effects;
+
+/* What bungero_read gives. */
+typedef struct bungero_reading {
+    uint64_t number;
+    uint64_t line;                 /* the refused line K, counted from 1; 0 for number 11, and the last line for number 0 */
+    size_t start;                  /* the part of the text that is refused, without its newline: */
+    size_t end;                    /* from text[start] to before text[end] */
+    bungero_column column;
+    bungero_sheet_effects effects;
+} bungero_reading;
+
+/* What bungero_report gives. */
+typedef struct bungero_reported {
+    uint64_t number;
+    uint64_t line;                 /* as in bungero_reading */
+    size_t length;                 /* how many bytes of `out` were written */
+} bungero_reported;
+
+/* Opens a member: for a code of 1 to 12, number 0 and its column without lines. For any other code number 1, and in the
+   column's place one with member code 0, which bungero_column_enter and bungero_column_ask refuse. */
 bungero_opened bungero_open(uint64_t code);
 
 /* The calls of the library behind bungero_column_enter and bungero_column_ask, which are what a program uses: a column is lent
    in its parts, and entering writes to the places where the line is accepted and gives the column's new count. The parts must
-   be those of one column as bungero_open with number 0 gave it, or bungero_enter after that; of others nothing is promised. */
-bungero_entered bungero_enter(uint64_t held[BUNGERO_LINES], bungero_member member, uint16_t count, uint64_t floor, uint64_t use_class,
-                              uint64_t load, uint64_t area);
+   be those of one column as bungero_open or bungero_read with number 0 gave it, or bungero_enter after that; of others nothing
+   is promised. Entering writes no place before the count: where it is cut off, by a signal or the end of a thread, the column
+   with its old count has the lines that it had, until the caller stores the count that is given. That the calls go on from it
+   as from the column before is tried, and not proved. */
+bungero_entered bungero_enter(uint64_t held[BUNGERO_LINES], bungero_member member, uint16_t count, uint64_t floor,
+                              uint64_t use_class, uint64_t load, uint64_t area);
 bungero_figure bungero_ask(const uint64_t held[BUNGERO_LINES], bungero_member member, uint16_t count, uint64_t floor);
 
 /* Enters a line at the end of the accepted lines of a column, one as these calls gave it: number 0, and the column has the
-   line. Else number 2, 3, 4, 5 or 6, the first whose condition holds in this order, and the column is as before. */
+   line. Else number 2, 3, 4, 5 or 6, the first whose condition holds in this order, and the column is as before. Number 1, and
+   nothing is touched, where no member was opened: the column of a refused bungero_open, or of a sheet that bungero_read
+   refuses at its member line or for its length. */
 static inline uint64_t bungero_column_enter(bungero_column *column, bungero_line line) {
+    if (column->member.code == 0) {
+        return BUNGERO_CODE;
+    }
     bungero_entered entered = bungero_enter(column->held, column->member, column->count, line.floor, line.use_class,
                                             line.load, line.area);
     column->count = entered.count;
@@ -158,9 +212,13 @@ static inline uint64_t bungero_column_enter(bungero_column *column, bungero_line
 }
 
 /* Asks at a floor of a column, one as these calls gave it: number 0 and n, X and the figure over the accepted lines with floor
-   at most `floor`. Number 7 where no accepted line has that floor, as with every floor that is not 1 to 64. The column is
-   only read. */
+   at most `floor`. Number 7 where no accepted line has that floor, as with every floor that is not 1 to 64, and where no
+   member was opened. The column is only read. */
 static inline bungero_figure bungero_column_ask(const bungero_column *column, uint64_t floor) {
+    if (column->member.code == 0) {
+        bungero_figure refused = {BUNGERO_NO_SUCH_FLOOR, 0, 0, 0};
+        return refused;
+    }
     return bungero_ask(column->held, column->member, column->count, floor);
 }
 
@@ -176,39 +234,62 @@ bungero_reduced bungero_reduced_load(uint64_t load, uint64_t use_class, uint64_t
 bungero_listed bungero_figure_of(uint64_t code, const bungero_line *lines, size_t count, uint64_t floor);
 
 /* Checks seven effects, dead to quake: number 0 and each in whole newtons, minus zero as 0. Else the first effect that is
-   not a whole number (8; NaN and infinities too) or is whole and beyond +-1,000,000,000,000 (9): its number, its place and
-   its double as it came, bit for bit. */
+   not a whole number (8; NaN and infinities too) or is whole and beyond +-1,000,000,000,000 (9): its number, which one it is
+   and its double as it came, bit for bit. */
 bungero_checked bungero_check(bungero_effects effects);
 
 /* Combines seven effects: number 0 and, of the 25 combinations, the rows with the greatest and the least sum; equal sums give
-   the lowest row. Else what bungero_check gives as number, place and double. */
+   the lowest row. Else what bungero_check gives as number, place and value. */
 bungero_combined bungero_combine(bungero_effects effects);
 
-/* What takedown prints for a text of `length` bytes, written to the start of `out`: each floor's working and the governing
-   rows, or for a refused sheet only `refused=N line=K`. Gives how many bytes that is, at most 3,960; no zero byte is added.
-   The text may hold any bytes and be of any length (above 32,768 it is refused with 11), and is only read; it may be NULL
-   where `length` is 0. `out` must be 4,096 bytes that do not overlap the text; only the first bytes, as many as the call
-   gives, are written, and the others stay as they were. */
-size_t bungero_report(const uint8_t *text, size_t length, uint8_t out[BUNGERO_REPORT_ROOM]);
+/* Reads a text of `length` bytes as a sheet: number 0, its column, as bungero_open and bungero_column_enter would give it, so
+   that it can be asked and entered on, its effects, and the empty part at the end of the text. Else 1 to 6, 9, 10 or 11, the
+   line K and the part of the text that is refused: the line without its newline, the empty part at the end where a line is
+   missing, the empty part at the start for 11. Column and effects are then what was read before that line, for whoever wants
+   to show it; the column has no member where that line is the member's. The text may hold any bytes and be of any length (above 32,768 it is refused with 11), and is only
+   read; it may be NULL where `length` is 0. */
+bungero_reading bungero_read(const uint8_t *text, size_t length);
 
-/* The layout that the library was built for. */
-static_assert(sizeof(bungero_line) == 32 && offsetof(bungero_line, area) == 24, "bungero_line");
-static_assert(sizeof(bungero_member) == 1, "bungero_member");
-static_assert(sizeof(bungero_column) == 2056, "bungero_column");
-static_assert(offsetof(bungero_column, count) == 2 && offsetof(bungero_column, held) == 8, "bungero_column");
-static_assert(sizeof(bungero_opened) == 2064 && offsetof(bungero_opened, column) == 8, "bungero_opened");
-static_assert(sizeof(bungero_entered) == 16 && offsetof(bungero_entered, count) == 8, "bungero_entered");
-static_assert(sizeof(bungero_figure) == 32 && offsetof(bungero_figure, figure) == 24, "bungero_figure");
-static_assert(sizeof(bungero_reduced) == 16 && offsetof(bungero_reduced, reduced) == 8, "bungero_reduced");
-static_assert(sizeof(bungero_listed) == 40 && offsetof(bungero_listed, figure) == 32, "bungero_listed");
-static_assert(sizeof(bungero_effects) == 56 && offsetof(bungero_effects, quake) == 48, "bungero_effects");
-static_assert(sizeof(bungero_newtons) == 56 && offsetof(bungero_newtons, quake) == 48, "bungero_newtons");
-static_assert(sizeof(bungero_checked) == 80 && offsetof(bungero_checked, value) == 16, "bungero_checked");
-static_assert(offsetof(bungero_checked, newtons) == 24, "bungero_checked");
-static_assert(sizeof(bungero_governing_row) == 24 && offsetof(bungero_governing_row, value) == 16, "bungero_governing_row");
-static_assert(sizeof(bungero_governing) == 48 && offsetof(bungero_governing, least) == 24, "bungero_governing");
-static_assert(sizeof(bungero_combined) == 72 && offsetof(bungero_combined, value) == 16, "bungero_combined");
-static_assert(offsetof(bungero_combined, governing) == 24, "bungero_combined");
+/* What takedown prints for a sheet of `length` bytes, written to the start of `out`: number 0, and each floor's working and the
+   governing rows, `length` bytes, at most 3,960; no zero byte is added, and the other bytes of `out` stay as they were. Else
+   number and line as bungero_read gives them, length 0, and no byte of `out` is written; takedown prints
+   `refused=NUMBER line=LINE` then. The text is taken as by bungero_read. `out` must be 4,096 bytes that do not overlap it. */
+bungero_reported bungero_report(const uint8_t *text, size_t length, uint8_t out[BUNGERO_REPORT_ROOM]);
+
+/* The layout that the library was built for: the size of each struct and where each of its members stands. */
+#define BUNGERO_SIZE(type, size) static_assert(sizeof(bungero_##type) == size, "size of bungero_" #type)
+#define BUNGERO_AT(type, member, offset) static_assert(offsetof(bungero_##type, member) == offset, "bungero_" #type "." #member)
+BUNGERO_SIZE(line, 32); BUNGERO_AT(line, floor, 0); BUNGERO_AT(line, use_class, 8); BUNGERO_AT(line, load, 16);
+BUNGERO_AT(line, area, 24);
+BUNGERO_SIZE(member, 1); BUNGERO_AT(member, code, 0);
+BUNGERO_SIZE(column, 2056); BUNGERO_AT(column, member, 0); BUNGERO_AT(column, count, 2); BUNGERO_AT(column, held, 8);
+BUNGERO_SIZE(opened, 2064); BUNGERO_AT(opened, number, 0); BUNGERO_AT(opened, column, 8);
+BUNGERO_SIZE(entered, 16); BUNGERO_AT(entered, number, 0); BUNGERO_AT(entered, count, 8);
+BUNGERO_SIZE(figure, 32); BUNGERO_AT(figure, number, 0); BUNGERO_AT(figure, floors, 8); BUNGERO_AT(figure, influence, 16);
+BUNGERO_AT(figure, figure, 24);
+BUNGERO_SIZE(reduced, 16); BUNGERO_AT(reduced, number, 0); BUNGERO_AT(reduced, reduced, 8);
+BUNGERO_SIZE(listed, 40); BUNGERO_AT(listed, number, 0); BUNGERO_AT(listed, place, 8); BUNGERO_AT(listed, floors, 16);
+BUNGERO_AT(listed, influence, 24); BUNGERO_AT(listed, figure, 32);
+BUNGERO_SIZE(effects, 56); BUNGERO_AT(effects, dead, 0); BUNGERO_AT(effects, live, 8); BUNGERO_AT(effects, roof, 16);
+BUNGERO_AT(effects, snow, 24); BUNGERO_AT(effects, rain, 32); BUNGERO_AT(effects, wind, 40); BUNGERO_AT(effects, quake, 48);
+BUNGERO_SIZE(newtons, 56); BUNGERO_AT(newtons, dead, 0); BUNGERO_AT(newtons, live, 8); BUNGERO_AT(newtons, roof, 16);
+BUNGERO_AT(newtons, snow, 24); BUNGERO_AT(newtons, rain, 32); BUNGERO_AT(newtons, wind, 40); BUNGERO_AT(newtons, quake, 48);
+BUNGERO_SIZE(checked, 80); BUNGERO_AT(checked, number, 0); BUNGERO_AT(checked, place, 8); BUNGERO_AT(checked, value, 16);
+BUNGERO_AT(checked, newtons, 24);
+BUNGERO_SIZE(governing_row, 24); BUNGERO_AT(governing_row, row, 0); BUNGERO_AT(governing_row, tenths, 8);
+BUNGERO_AT(governing_row, value, 16);
+BUNGERO_SIZE(governing, 48); BUNGERO_AT(governing, greatest, 0); BUNGERO_AT(governing, least, 24);
+BUNGERO_SIZE(combined, 72); BUNGERO_AT(combined, number, 0); BUNGERO_AT(combined, place, 8);
+BUNGERO_AT(combined, value, 16); BUNGERO_AT(combined, governing, 24);
+BUNGERO_SIZE(sheet_effects, 48); BUNGERO_AT(sheet_effects, dead, 0); BUNGERO_AT(sheet_effects, roof, 8);
+BUNGERO_AT(sheet_effects, snow, 16); BUNGERO_AT(sheet_effects, rain, 24); BUNGERO_AT(sheet_effects, wind, 32);
+BUNGERO_AT(sheet_effects, quake, 40);
+BUNGERO_SIZE(reading, 2136); BUNGERO_AT(reading, number, 0); BUNGERO_AT(reading, line, 8); BUNGERO_AT(reading, start, 16);
+BUNGERO_AT(reading, end, 24); BUNGERO_AT(reading, column, 32); BUNGERO_AT(reading, effects, 2088);
+BUNGERO_SIZE(reported, 24); BUNGERO_AT(reported, number, 0); BUNGERO_AT(reported, line, 8);
+BUNGERO_AT(reported, length, 16);
+#undef BUNGERO_SIZE
+#undef BUNGERO_AT
 
 #ifdef __cplusplus
 }

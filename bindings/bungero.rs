@@ -1,19 +1,32 @@
 // Bungero for programs in Rust: safe calls over the proved static library libexports.a, and in `raw` its C interface.
 //
 // Put this file into a program with `mod bungero;` and link with `-L DIRECTORY -l static=exports` (x86-64 Linux).
-// Refusals come as `Err` with the paper's number, which `refusal` names: a `Refused`, a `RefusedLine` or a `RefusedEffect`.
+// Refusals come as `Err` with the paper's number, which `refusal` names: a `Refused`; a `RefusedList` with the place of a line
+// in a list; a `RefusedSheet` with the line of a sheet; or a `RefusedEffect` with which of the seven it is. What bungero.h
+// says of names, memory and the stack holds here too; to the stack come the copies of columns, 2 KB, and reports, 4 KB.
 #![allow(dead_code, unused_imports)] // few programs use all of the calls
 
 use std::fmt;
+use std::mem::{align_of, offset_of, size_of};
 use std::ops::Deref;
 
-pub use raw::{Effects, Governing, GoverningRow, Line, Newtons};
+pub use raw::{Effects, Governing, GoverningRow, Line, Newtons, SheetEffects};
 
-/// The bytes that a report may take, for the buffer that `report_into` writes to; no report is longer than 3,960.
+// The mark of the layout: a program with this file refers to it, so that it does not link with a library of other structs.
+// Whoever changes a struct or a call gives the mark the next number, as bungero.h says.
+#[used]
+static LAYOUT: unsafe extern "C" fn() -> u64 = raw::bungero_layout_1;
+
+/// The bytes of the buffer that `report_into` writes to; no report is longer than 3,960.
 pub const REPORT_ROOM: usize = 4096;
+
+/// The most lines that a column holds.
+pub const LINES: usize = 256;
 
 /// The refusals, with the paper's numbers, in the order of its table.
 pub mod refusal {
+    /// No condition holds.
+    pub const ACCEPTED: u64 = 0;
     /// Opening a member: code not 1 to 12.
     pub const CODE: u64 = 1;
     /// Entering a line: 256 lines held.
@@ -38,14 +51,17 @@ pub mod refusal {
     pub const TOO_LONG: u64 = 11;
 }
 
-/// The C interface as it is: structs in C's layout and the calls. A number is the paper's, 0 where no condition holds.
+/// The C interface as it is: structs in C's layout and the calls, with the header's names but for its `bungero_`. A number is
+/// the paper's, 0 where no condition holds.
 pub mod raw {
+    use super::{LINES, REPORT_ROOM};
+
     /// A line as a caller lends it: floor 1 to 64, class 1 to 3, load 1 to 50,000 N/m², tributary area 1 to 200,000 dm².
     #[repr(C)]
     #[derive(Clone, Copy, Debug, Default, PartialEq, Eq)]
     pub struct Line {
         pub floor: u64,
-        pub class: u64,
+        pub use_class: u64,
         pub load: u64,
         pub area: u64,
     }
@@ -56,9 +72,6 @@ pub mod raw {
     pub struct Member {
         pub code: u8,
     }
-
-    /// The most lines that a column holds.
-    pub const LINES: usize = 256;
 
     /// The places of a column's lines, each line as one number.
     pub type Places = [u64; LINES];
@@ -75,7 +88,7 @@ pub mod raw {
     /// What opening gives: the number, and the column.
     #[repr(C)]
     #[derive(Clone, Copy, Debug, PartialEq, Eq)]
-    pub struct BungeroOpened {
+    pub struct Opened {
         pub number: u64,
         pub column: Column,
     }
@@ -83,7 +96,7 @@ pub mod raw {
     /// What entering gives: the number, and how many lines the column then holds.
     #[repr(C)]
     #[derive(Clone, Copy, Debug, PartialEq, Eq)]
-    pub struct BungeroEntered {
+    pub struct Entered {
         pub number: u64,
         pub count: u16,
     }
@@ -91,7 +104,7 @@ pub mod raw {
     /// What asking gives: the number; n, X in dm² and the figure in hundredths of a newton, 0 where refused.
     #[repr(C)]
     #[derive(Clone, Copy, Debug, PartialEq, Eq)]
-    pub struct BungeroFigure {
+    pub struct Figure {
         pub number: u64,
         pub floors: u64,
         pub influence: u64,
@@ -101,7 +114,7 @@ pub mod raw {
     /// What reducing a load gives: the number, and R in N/m², 0 where refused.
     #[repr(C)]
     #[derive(Clone, Copy, Debug, PartialEq, Eq)]
-    pub struct BungeroReduced {
+    pub struct Reduced {
         pub number: u64,
         pub reduced: u64,
     }
@@ -109,7 +122,7 @@ pub mod raw {
     /// What the list call gives: the number, the place of the refused line, and n, X and the figure, 0 where refused.
     #[repr(C)]
     #[derive(Clone, Copy, Debug, PartialEq, Eq)]
-    pub struct BungeroListed {
+    pub struct Listed {
         pub number: u64,
         pub place: u64,
         pub floors: u64,
@@ -143,13 +156,13 @@ pub mod raw {
         pub quake: i64,
     }
 
-    /// What checking gives: the number, the place of the refused effect and its double as it came; or the whole newtons.
+    /// What checking gives: the number, which effect is refused and its double as it came; or the whole newtons.
     #[repr(C)]
     #[derive(Clone, Copy, Debug, PartialEq)]
-    pub struct BungeroChecked {
+    pub struct Checked {
         pub number: u64,
         pub place: u64,
-        pub double: f64,
+        pub value: f64,
         pub newtons: Newtons,
     }
 
@@ -159,7 +172,7 @@ pub mod raw {
     pub struct GoverningRow {
         pub row: u64,
         pub tenths: i64,
-        pub double: f64,
+        pub value: f64,
     }
 
     /// The rows with the greatest and the least sum; of equal sums the lowest row.
@@ -170,19 +183,54 @@ pub mod raw {
         pub least: GoverningRow,
     }
 
-    /// What combining gives: the number, the place of the refused effect and its double as it came; or the governing rows.
+    /// What combining gives: the number, which effect is refused and its double as it came; or the governing rows.
     #[repr(C)]
     #[derive(Clone, Copy, Debug, PartialEq)]
-    pub struct BungeroCombined {
+    pub struct Combined {
         pub number: u64,
         pub place: u64,
-        pub double: f64,
+        pub value: f64,
         pub governing: Governing,
     }
 
+    /// The six effects of a sheet in whole newtons; the live effect follows from its column.
+    #[repr(C)]
+    #[derive(Clone, Copy, Debug, Default, PartialEq, Eq)]
+    pub struct SheetEffects {
+        pub dead: i64,
+        pub roof: i64,
+        pub snow: i64,
+        pub rain: i64,
+        pub wind: i64,
+        pub quake: i64,
+    }
+
+    /// What reading gives: the number, the line K, the part of the text that is refused, and what was read before it.
+    #[repr(C)]
+    #[derive(Clone, Copy, Debug, PartialEq, Eq)]
+    pub struct Reading {
+        pub number: u64,
+        pub line: u64,
+        pub start: usize,
+        pub end: usize,
+        pub column: Column,
+        pub effects: SheetEffects,
+    }
+
+    /// What reporting gives: the number, the line K, and how many bytes were written.
+    #[repr(C)]
+    #[derive(Clone, Copy, Debug, PartialEq, Eq)]
+    pub struct Reported {
+        pub number: u64,
+        pub line: u64,
+        pub length: usize,
+    }
+
     unsafe extern "C" {
+        /// The mark of the layout; gives its number.
+        pub fn bungero_layout_1() -> u64;
         /// Opens a member.
-        pub fn bungero_open(code: u64) -> BungeroOpened;
+        pub fn bungero_open(code: u64) -> Opened;
         /// Enters a line on a column lent in its parts, which must be one that these calls gave; writes to `held` where it is
         /// accepted, and the column's count is then the one in the answer.
         pub fn bungero_enter(
@@ -190,27 +238,60 @@ pub mod raw {
             member: Member,
             count: u16,
             floor: u64,
-            class: u64,
+            use_class: u64,
             load: u64,
             area: u64,
-        ) -> BungeroEntered;
+        ) -> Entered;
         /// Asks at a floor of a column lent in its parts, which must be one that these calls gave.
-        pub fn bungero_ask(held: *const Places, member: Member, count: u16, floor: u64) -> BungeroFigure;
+        pub fn bungero_ask(held: *const Places, member: Member, count: u16, floor: u64) -> Figure;
         /// The reduced load R of a line, at n floors and influence area X.
-        pub fn bungero_reduced_load(load: u64, class: u64, floors: u64, influence: u64) -> BungeroReduced;
+        pub fn bungero_reduced_load(load: u64, use_class: u64, floors: u64, influence: u64) -> Reduced;
         /// The figure of a lent list, `count` records that are only read; `lines` may be null where there are none.
-        pub fn bungero_figure_of(code: u64, lines: *const Line, count: usize, floor: u64) -> BungeroListed;
+        pub fn bungero_figure_of(code: u64, lines: *const Line, count: usize, floor: u64) -> Listed;
         /// The seven effects in whole newtons, or the first that is refused.
-        pub fn bungero_check(effects: Effects) -> BungeroChecked;
+        pub fn bungero_check(effects: Effects) -> Checked;
         /// The governing rows of the 25 combinations, or the first effect that is refused.
-        pub fn bungero_combine(effects: Effects) -> BungeroCombined;
-        /// The report of a lent text, `length` bytes that are only read, to the start of `out`; gives how many bytes.
-        /// `text` may be null where there are none. The 4,096 bytes of `out` must not overlap the text.
-        pub fn bungero_report(text: *const u8, length: usize, out: *mut [u8; 4096]) -> usize;
+        pub fn bungero_combine(effects: Effects) -> Combined;
+        /// A lent text, `length` bytes that are only read, read as a sheet; `text` may be null where there are none. The
+        /// column is one that the calls take where the number is 0, and only there.
+        pub fn bungero_read(text: *const u8, length: usize) -> Reading;
+        /// The report of such a text to the start of `out`, or no byte where it is refused. The 4,096 bytes of `out` must not
+        /// overlap the text.
+        pub fn bungero_report(text: *const u8, length: usize, out: *mut [u8; REPORT_ROOM]) -> Reported;
     }
 }
 
-/// What *takedown* prints for a text.
+// Stops the compiler where a struct has not the size, the alignment or the offsets that the library was built for.
+macro_rules! layout {
+    ($($name:ident size $size:literal align $align:literal: $($field:ident $offset:literal),+;)+) => {
+        $(const _: () = {
+            assert!(size_of::<raw::$name>() == $size && align_of::<raw::$name>() == $align, stringify!($name));
+            $(assert!(offset_of!(raw::$name, $field) == $offset, concat!(stringify!($name), ".", stringify!($field)));)+
+        };)+
+    };
+}
+
+layout! {
+    Line size 32 align 8: floor 0, use_class 8, load 16, area 24;
+    Member size 1 align 1: code 0;
+    Column size 2056 align 8: member 0, count 2, held 8;
+    Opened size 2064 align 8: number 0, column 8;
+    Entered size 16 align 8: number 0, count 8;
+    Figure size 32 align 8: number 0, floors 8, influence 16, figure 24;
+    Reduced size 16 align 8: number 0, reduced 8;
+    Listed size 40 align 8: number 0, place 8, floors 16, influence 24, figure 32;
+    Effects size 56 align 8: dead 0, live 8, roof 16, snow 24, rain 32, wind 40, quake 48;
+    Newtons size 56 align 8: dead 0, live 8, roof 16, snow 24, rain 32, wind 40, quake 48;
+    Checked size 80 align 8: number 0, place 8, value 16, newtons 24;
+    GoverningRow size 24 align 8: row 0, tenths 8, value 16;
+    Governing size 48 align 8: greatest 0, least 24;
+    Combined size 72 align 8: number 0, place 8, value 16, governing 24;
+    SheetEffects size 48 align 8: dead 0, roof 8, snow 16, rain 24, wind 32, quake 40;
+    Reading size 2136 align 8: number 0, line 8, start 16, end 24, column 32, effects 2088;
+    Reported size 24 align 8: number 0, line 8, length 16;
+}
+
+/// What *takedown* prints for a sheet that is read.
 #[derive(Clone)]
 pub struct Report {
     room: [u8; REPORT_ROOM],
@@ -282,31 +363,49 @@ impl std::error::Error for Refused {}
 
 /// Why a list has no figure: the number, and the place of the refused line, counted from 1; 0 for numbers 1 and 7.
 #[derive(Clone, Copy, Debug, PartialEq, Eq)]
-pub struct RefusedLine {
+pub struct RefusedList {
     pub number: u64,
     pub place: u64,
 }
 
-impl fmt::Display for RefusedLine {
+impl fmt::Display for RefusedList {
     fn fmt(&self, f: &mut fmt::Formatter) -> fmt::Result {
-        write!(f, "refused={} line={}", self.number, self.place)
+        write!(f, "refused={} place={}", self.number, self.place)
     }
 }
 
-impl std::error::Error for RefusedLine {}
+impl std::error::Error for RefusedList {}
+
+/// Why a sheet is not read: the number; the line K, counted from 1, a missing one as the next, 0 for number 11; and that line
+/// in the caller's own text, without its newline: empty at the text's end where it is missing, at its start for 11. It
+/// prints what *takedown* prints, and lives no longer than the text.
+#[derive(Clone, Copy, Debug, PartialEq, Eq)]
+pub struct RefusedSheet<'a> {
+    pub number: u64,
+    pub line: u64,
+    pub part: &'a [u8],
+}
+
+impl fmt::Display for RefusedSheet<'_> {
+    fn fmt(&self, f: &mut fmt::Formatter) -> fmt::Result {
+        write!(f, "refused={} line={}", self.number, self.line)
+    }
+}
+
+impl std::error::Error for RefusedSheet<'_> {}
 
 /// The first effect that is refused: 8 or 9, its place from 1 (dead) to 7 (quake), and its double as it came, bit for bit.
 #[derive(Clone, Copy, Debug)]
 pub struct RefusedEffect {
     pub number: u64,
     pub place: u64,
-    pub double: f64,
+    pub value: f64,
 }
 
 // Equal bit for bit, so that a NaN is equal to itself.
 impl PartialEq for RefusedEffect {
     fn eq(&self, other: &RefusedEffect) -> bool {
-        let bits = |each: &RefusedEffect| (each.number, each.place, each.double.to_bits());
+        let bits = |each: &RefusedEffect| (each.number, each.place, each.value.to_bits());
         bits(self) == bits(other)
     }
 }
@@ -315,7 +414,7 @@ impl Eq for RefusedEffect {}
 
 impl fmt::Display for RefusedEffect {
     fn fmt(&self, f: &mut fmt::Formatter) -> fmt::Result {
-        write!(f, "refused={} effect={} double={}", self.number, self.place, self.double)
+        write!(f, "refused={} place={} value={}", self.number, self.place, self.value)
     }
 }
 
@@ -337,8 +436,16 @@ impl From<Newtons> for [i64; 7] {
     }
 }
 
-/// A member and its accepted lines. Only `open` makes one and only `enter` changes it. The count stands by itself, so that no
-/// wide read of it with the member has to wait until its narrow store is done.
+impl From<SheetEffects> for [i64; 6] {
+    /// In the paper's order: D, Lr, S, R, W, E.
+    fn from(effects: SheetEffects) -> [i64; 6] {
+        let SheetEffects { dead, roof, snow, rain, wind, quake } = effects;
+        [dead, roof, snow, rain, wind, quake]
+    }
+}
+
+/// A member and its accepted lines. Only `open` and `read` make one and only `enter` changes it. The count stands by itself, so
+/// that no wide read of it with the member has to wait until its narrow store is done.
 #[derive(Clone, Debug, PartialEq, Eq)]
 pub struct Column {
     held: raw::Places,
@@ -347,24 +454,27 @@ pub struct Column {
 }
 
 impl Column {
+    // A column that opening or reading gave with number 0.
+    fn of(column: raw::Column) -> Column {
+        let raw::Column { member, count, held } = column;
+        Column { held, count, member }
+    }
+
     /// Opens a member without lines; 1 where the code is not 1 to 12.
     pub fn open(code: u64) -> Result<Column, Refused> {
         // SAFETY: the call takes every code and touches no memory of ours.
         let opened = unsafe { raw::bungero_open(code) };
         match opened.number {
-            0 => {
-                let raw::Column { member, count, held } = opened.column;
-                Ok(Column { held, count, member })
-            }
+            0 => Ok(Column::of(opened.column)),
             number => Err(Refused { number }),
         }
     }
 
     /// Enters a line at the end of the accepted ones; or 2 to 6, and the column is as before.
     pub fn enter(&mut self, line: Line) -> Result<(), Refused> {
-        let Line { floor, class, load, area } = line;
-        // SAFETY: the column is one that opening gave, changed only by entering; its places are borrowed for us alone.
-        let entered = unsafe { raw::bungero_enter(&mut self.held, self.member, self.count, floor, class, load, area) };
+        let Line { floor, use_class, load, area } = line;
+        // SAFETY: the column is one that a call gave, changed only by entering; its places are borrowed for us alone.
+        let entered = unsafe { raw::bungero_enter(&mut self.held, self.member, self.count, floor, use_class, load, area) };
         self.count = entered.count;
         match entered.number {
             0 => Ok(()),
@@ -374,7 +484,7 @@ impl Column {
 
     /// Asks at a floor; 7 where no accepted line has that floor.
     pub fn ask(&self, floor: u64) -> Result<Working, Refused> {
-        // SAFETY: the column is one that opening gave, changed only by entering; its places are only read.
+        // SAFETY: the column is one that a call gave, changed only by entering; its places are only read.
         let asked = unsafe { raw::bungero_ask(&self.held, self.member, self.count, floor) };
         match asked.number {
             0 => Ok(Working { floors: asked.floors, influence: asked.influence, figure: asked.figure }),
@@ -385,9 +495,9 @@ impl Column {
 
 /// The reduced load R of a line in N/m², at n floors (0 counts as 1) and influence area X in dm²; or 4 for a class that is
 /// not 1 to 3, 5 for a load that is not 1 to 50,000.
-pub fn reduced_load(load: u64, class: u64, floors: u64, influence: u64) -> Result<u64, Refused> {
+pub fn reduced_load(load: u64, use_class: u64, floors: u64, influence: u64) -> Result<u64, Refused> {
     // SAFETY: the call takes all numbers and touches no memory of ours.
-    let reduced = unsafe { raw::bungero_reduced_load(load, class, floors, influence) };
+    let reduced = unsafe { raw::bungero_reduced_load(load, use_class, floors, influence) };
     match reduced.number {
         0 => Ok(reduced.reduced),
         number => Err(Refused { number }),
@@ -396,12 +506,12 @@ pub fn reduced_load(load: u64, class: u64, floors: u64, influence: u64) -> Resul
 
 /// The working at a floor of a member with these lines; or the first refusal: 1 for the code, else 2 to 6 for a line with its
 /// place, else 7 where no line has that floor.
-pub fn figure_of(code: u64, lines: &[Line], floor: u64) -> Result<Working, RefusedLine> {
+pub fn figure_of(code: u64, lines: &[Line], floor: u64) -> Result<Working, RefusedList> {
     // SAFETY: pointer and count are those of one slice, which the call only reads.
     let listed = unsafe { raw::bungero_figure_of(code, lines.as_ptr(), lines.len(), floor) };
     match listed.number {
         0 => Ok(Working { floors: listed.floors, influence: listed.influence, figure: listed.figure }),
-        number => Err(RefusedLine { number, place: listed.place }),
+        number => Err(RefusedList { number, place: listed.place }),
     }
 }
 
@@ -411,7 +521,7 @@ pub fn check(effects: Effects) -> Result<Newtons, RefusedEffect> {
     let checked = unsafe { raw::bungero_check(effects) };
     match checked.number {
         0 => Ok(checked.newtons),
-        number => Err(RefusedEffect { number, place: checked.place, double: checked.double }),
+        number => Err(RefusedEffect { number, place: checked.place, value: checked.value }),
     }
 }
 
@@ -421,19 +531,49 @@ pub fn combine(effects: Effects) -> Result<Governing, RefusedEffect> {
     let combined = unsafe { raw::bungero_combine(effects) };
     match combined.number {
         0 => Ok(combined.governing),
-        number => Err(RefusedEffect { number, place: combined.place, double: combined.double }),
+        number => Err(RefusedEffect { number, place: combined.place, value: combined.value }),
     }
 }
 
-/// What *takedown* prints for the text, to the start of `out`; gives how many bytes, and leaves the others as they were.
-pub fn report_into(text: &[u8], out: &mut [u8; REPORT_ROOM]) -> usize {
-    // SAFETY: pointer and length are those of one slice, which the call only reads; `out` is borrowed for us alone.
-    unsafe { raw::bungero_report(text.as_ptr(), text.len(), out) }
+/// What a sheet says: its column, which can be asked and entered on, and its six effects.
+#[derive(Clone, Debug, PartialEq, Eq)]
+pub struct Sheet {
+    pub column: Column,
+    pub effects: SheetEffects,
 }
 
-/// What *takedown* prints for the text: each floor's working and the governing rows, or `refused=N line=K`.
-pub fn report(text: &[u8]) -> Report {
+// What the library reads in a text.
+fn reading(text: &[u8]) -> raw::Reading {
+    // SAFETY: pointer and length are those of one slice, which the call only reads.
+    unsafe { raw::bungero_read(text.as_ptr(), text.len()) }
+}
+
+/// Reads a text as a sheet; or the first refusal, with its line and that part of the text.
+pub fn read(text: &[u8]) -> Result<Sheet, RefusedSheet<'_>> {
+    let raw::Reading { number, line, start, end, column, effects } = reading(text);
+    match number {
+        0 => Ok(Sheet { column: Column::of(column), effects }),
+        _ => Err(RefusedSheet { number, line, part: &text[start..end] }),
+    }
+}
+
+/// What *takedown* prints for a sheet, to the start of `out`; gives how many bytes, and leaves the others as they were. Or why
+/// `read` refuses it, and no byte is written; its part is found by reading the text once more.
+pub fn report_into<'a>(text: &'a [u8], out: &mut [u8; REPORT_ROOM]) -> Result<usize, RefusedSheet<'a>> {
+    // SAFETY: pointer and length are those of one slice, which the call only reads; `out` is borrowed for us alone.
+    let raw::Reported { number, line, length } = unsafe { raw::bungero_report(text.as_ptr(), text.len(), out) };
+    match number {
+        0 => Ok(length),
+        _ => {
+            let raw::Reading { start, end, .. } = reading(text);
+            Err(RefusedSheet { number, line, part: &text[start..end] })
+        }
+    }
+}
+
+/// What *takedown* prints for a sheet: each floor's working and the governing rows; or why `read` refuses it.
+pub fn report(text: &[u8]) -> Result<Report, RefusedSheet<'_>> {
     let mut room = [0; REPORT_ROOM];
-    let length = report_into(text, &mut room);
-    Report { room, length }
+    let length = report_into(text, &mut room)?;
+    Ok(Report { room, length })
 }

@@ -8,7 +8,7 @@ const NAMES: [&str; 7] = ["dead", "live", "roof", "snow", "rain", "wind", "quake
 
 // Prints a governing row: tenths of a newton as newtons.
 fn show_row(which: &str, governing: GoverningRow) {
-    println!("{which} sum: {:.1} N at row {}", governing.double / 10.0, governing.row);
+    println!("{which} sum: {:.1} N at row {}", governing.value / 10.0, governing.row);
 }
 
 // Checks the effects and combines them, or gives the one that is refused.
@@ -26,7 +26,7 @@ fn main() {
         if let Err(refused) = show(Effects { dead: 100_000.0, wind, ..Effects::default() }) {
             let why = if refused.number == refusal::NOT_WHOLE { "not a whole number" } else { "beyond the limit" };
             let name = NAMES[refused.place as usize - 1];
-            println!("the {name} effect is refused: {:.1} N is {why}", refused.double);
+            println!("the {name} effect is refused: {:.1} N is {why}", refused.value);
         }
     }
 }

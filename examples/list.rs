@@ -2,7 +2,7 @@
 #[path = "../bindings/bungero.rs"]
 mod bungero;
 
-use bungero::{figure_of, refusal, Line, RefusedLine};
+use bungero::{figure_of, refusal, Line, RefusedList};
 
 const INTERIOR_COLUMN: u64 = 1;
 
@@ -10,8 +10,8 @@ const INTERIOR_COLUMN: u64 = 1;
 fn show(lines: &[Line], floor: u64) {
     print!("floor {floor}: ");
     match figure_of(INTERIOR_COLUMN, lines, floor) {
-        Err(RefusedLine { number: refusal::NO_SUCH_FLOOR, .. }) => println!("no line has this floor"),
-        Err(RefusedLine { number, place }) => println!("line {place} of the list is refused with number {number}"),
+        Err(RefusedList { number: refusal::NO_SUCH_FLOOR, .. }) => println!("no line has this floor"),
+        Err(RefusedList { number, place }) => println!("line {place} of the list is refused with number {number}"),
         Ok(working) => {
             print!("{}.{:02} N", working.figure / 100, working.figure % 100);
             print!(" over {} floor(s)", working.floors);
@@ -22,14 +22,14 @@ fn show(lines: &[Line], floor: u64) {
 
 fn main() {
     let mut lines = [
-        Line { floor: 1, class: 1, load: 6000, area: 10_000 },
-        Line { floor: 2, class: 1, load: 2000, area: 100 },
+        Line { floor: 1, use_class: 1, load: 6000, area: 10_000 },
+        Line { floor: 2, use_class: 1, load: 2000, area: 100 },
     ];
     println!("6000 N/m2 on 100 m2 above 2000 N/m2 on 1 m2");
     for floor in 1..=3 {
         show(&lines, floor);
     }
-    lines[1].class = 4;
+    lines[1].use_class = 4;
     println!("the same with class 4 in the second line");
     show(&lines, 1);
 }

@@ -8,12 +8,11 @@ mod random;
 #[allow(dead_code)]
 mod reckoning;
 
-use bungero::{raw, Column, Line, Refused, Working};
+use bungero::{raw, Column, Line, Refused, Working, LINES};
 use random::Random;
 
 const CANARIES: usize = 16; // watched on either side of the places
 const CANARY: u64 = 0xa5a5_a5a5_a5a5_a5a5;
-const MOST_LINES: usize = raw::LINES;
 
 // Numbers outside the limits of a floor, a class, a load and an area; some look right when cut to fewer bits.
 const OUTSIDE: [[u64; 5]; 4] = [
@@ -42,15 +41,15 @@ impl RawColumn {
     // The number of an entry. A refused one changes nothing, an accepted one no canary.
     fn enter(&mut self, line: Line) -> u64 {
         let before = self.lent.clone();
-        let Line { floor, class, load, area } = line;
+        let Line { floor, use_class, load, area } = line;
         let places = self.lent[CANARIES..].as_mut_ptr().cast::<raw::Places>();
         // SAFETY: the places are those that opening gave, changed only here, and the count is the last one given.
-        let entered = unsafe { raw::bungero_enter(places, self.member, self.count, floor, class, load, area) };
+        let entered = unsafe { raw::bungero_enter(places, self.member, self.count, floor, use_class, load, area) };
         if entered.number != 0 {
             assert!(self.lent == before && entered.count == self.count, "a refused line changed the column");
             return entered.number;
         }
-        let mut beside = self.lent[..CANARIES].iter().chain(&self.lent[CANARIES + raw::LINES..]);
+        let mut beside = self.lent[..CANARIES].iter().chain(&self.lent[CANARIES + LINES..]);
         assert!(beside.all(|&each| each == CANARY), "written past the places");
         assert_eq!(entered.count, self.count + 1, "an accepted line is not counted");
         self.count = entered.count;
@@ -88,7 +87,7 @@ impl Trial {
 
     // Enters a line; gives its number. The reckoning's list of the accepted lines and this one must be refused at this one.
     fn enter(&mut self, line: Line) -> u64 {
-        self.accepted.push([line.floor, line.class, line.load, line.area]);
+        self.accepted.push([line.floor, line.use_class, line.load, line.area]);
         let number = match reckoning::listed(self.code, &self.accepted, line.floor) {
             Ok(_) => 0,
             Err((number, place)) => {
@@ -128,7 +127,7 @@ fn good_line(random: &mut Random, floor: u64) -> Line {
     let (any_load, any_area) = (random.between(1, most_load), random.between(1, most_area));
     let load = random.pick(&[any_load, any_load, any_load, 1, 5_000, 5_001, 50_000]);
     let area = random.pick(&[any_area, any_area, any_area, any_area, any_area, 1, 200_000]);
-    Line { floor, class: random.between(1, 3), load, area }
+    Line { floor, use_class: random.between(1, 3), load, area }
 }
 
 // The line at a floor further up, often above the last accepted one, or with some of its numbers outside their limits.
@@ -136,13 +135,13 @@ fn damaged_line(random: &mut Random, good: Line) -> Line {
     if random.below(4) == 0 {
         return Line { floor: good.floor.saturating_sub(random.between(1, 3)), ..good };
     }
-    let mut numbers = [good.floor, good.class, good.load, good.area];
+    let mut numbers = [good.floor, good.use_class, good.load, good.area];
     for _ in 0..random.between(1, 4) {
         let field = random.index(4);
         numbers[field] = random.pick(&OUTSIDE[field]);
     }
-    let [floor, class, load, area] = numbers;
-    Line { floor, class, load, area }
+    let [floor, use_class, load, area] = numbers;
+    Line { floor, use_class, load, area }
 }
 
 // What was met: floors asked at that have a line, entries of each number, and accepted ones just after a refused one.
@@ -181,11 +180,11 @@ fn try_full(columns: u64) -> u64 {
     for _ in 0..columns {
         let mut trial = Trial::open(random.between(1, 12));
         let lines_a_floor = random.pick(&[5, 6, 9, 20, 260]);
-        for entry in 0..MOST_LINES + 4 {
+        for entry in 0..LINES + 4 {
             let line = good_line(random, 1 + entry as u64 / lines_a_floor);
-            assert_eq!(trial.enter(line), if entry < MOST_LINES { 0 } else { 2 }, "line {} of a full column", entry + 1);
+            assert_eq!(trial.enter(line), if entry < LINES { 0 } else { 2 }, "line {} of a full column", entry + 1);
         }
-        assert_eq!(usize::from(trial.raw.count), MOST_LINES);
+        assert_eq!(usize::from(trial.raw.count), LINES);
         figures += trial.ask_all();
     }
     figures

@@ -1,5 +1,6 @@
-// Tries bungero_report on damaged texts of every length from 0 to 33,000 bytes: the second reckoning's report, the lent
-// text and the memory around it as before, and in the buffer no byte written but the report's own.
+// Tries bungero_read and bungero_report on damaged texts of every length from 0 to 33,000 bytes: the second reckoning's
+// sheet, refusal and report, the lent text and the memory around it as before, and in the buffer no byte written but the
+// report's own; none where the sheet is refused.
 #[path = "../bindings/bungero.rs"]
 mod bungero;
 #[allow(dead_code)]
@@ -9,10 +10,10 @@ mod random;
 mod reckoning;
 mod reports;
 
-use bungero::raw::bungero_report;
+use bungero::raw::{bungero_read, bungero_report, Reading, Reported};
 use bungero::REPORT_ROOM;
 use random::Random;
-use reports::{number_of, REPORT_BOUND};
+use reports::{Reckoned, REPORT_BOUND};
 
 const LONGEST: usize = 33_000;
 
@@ -150,21 +151,32 @@ impl Sources {
     }
 }
 
-// The call, with the text and the buffer each between canaries: `after` follows the text, so that one that read on would find
-// the text go on. All but the report's own bytes must be as before.
-fn report(text: &[u8], after: &[u8], fill: u8) -> Vec<u8> {
+// Both calls, with the text and the buffer each between canaries: `after` follows the text, so that one that read on would
+// find the text go on. All but the report's own bytes must be as before.
+fn give(text: &[u8], after: &[u8], fill: u8) -> (Reading, Reported, Vec<u8>) {
     let before = [&[fill; CANARIES], text, after].concat();
     let mut lent = before.clone();
     let mut buffer = [fill; CANARIES + REPORT_ROOM + CANARIES];
     let out = buffer[CANARIES..].as_mut_ptr().cast();
+    let start = lent[CANARIES..].as_mut_ptr();
     // SAFETY: `lent` holds the text's bytes from CANARIES on, and `out` points to REPORT_ROOM bytes and more.
-    let length = unsafe { bungero_report(lent[CANARIES..].as_mut_ptr(), text.len(), out) };
+    let (reading, reported) = unsafe { (bungero_read(start, text.len()), bungero_report(start, text.len(), out)) };
     assert!(lent == before, "the lent text or what is beside it was written to");
-    assert!(length <= REPORT_BOUND, "a report of {length} bytes");
+    assert!(reported.length <= REPORT_BOUND, "a report of {} bytes", reported.length);
     let (canaries, rest) = buffer.split_at(CANARIES);
-    let (report, past) = rest.split_at(length);
+    let (report, past) = rest.split_at(reported.length);
     assert!(canaries.iter().chain(past).all(|&byte| byte == fill), "bytes beside the report were written");
-    report.to_vec()
+    (reading, reported, report.to_vec())
+}
+
+// Tries one text, whose case is said where something is wrong; gives its number.
+fn try_text(text: &[u8], after: &[u8], fill: u8, case: &str) -> u64 {
+    let (reading, reported, report) = give(text, after, fill);
+    let wanted = Reckoned::of(text);
+    assert_eq!(reported, wanted.reported, "{case}");
+    assert_eq!(String::from_utf8_lossy(&report), String::from_utf8_lossy(&wanted.report), "{case}");
+    assert_eq!(reading, wanted.reading, "{case}");
+    reading.number
 }
 
 fn main() {
@@ -175,10 +187,8 @@ fn main() {
         let after = &sources.repeated[length..length + CANARIES];
         for (kind, text) in sources.texts(length, random).iter().enumerate() {
             assert_eq!(text.len(), length);
-            let given = report(text, after, random.pick(&[0xa5, b'0']));
-            let wanted = reckoning::report(text);
-            assert_eq!(String::from_utf8_lossy(&given), String::from_utf8_lossy(&wanted), "length {length}, kind {kind}");
-            counts[number_of(&given)] += 1;
+            let number = try_text(text, after, random.pick(&[0xa5, b'0']), &format!("length {length}, kind {kind}"));
+            counts[number as usize] += 1;
         }
     }
     assert!(counts[0] >= 257, "only {} sheets were read", counts[0]);

@@ -32,7 +32,7 @@ fn effects(bits: [u64; 7]) -> Effects {
 fn check(bits: [u64; 7]) -> Given<[i64; 7]> {
     let checked = unsafe { bungero_check(effects(bits)) };
     let newtons: [i64; 7] = checked.newtons.into();
-    let refusal = (checked.number, checked.place, checked.double.to_bits());
+    let refusal = (checked.number, checked.place, checked.value.to_bits());
     if checked.number != 0 {
         assert_eq!(newtons, [0; 7], "newtons beside a refusal");
         return Err(refusal);
@@ -44,9 +44,9 @@ fn check(bits: [u64; 7]) -> Given<[i64; 7]> {
 // The combination of effects given as bits: the greatest and the least sum, or a refusal with rows of 0.
 fn combine(bits: [u64; 7]) -> Given<[Row; 2]> {
     let combined = unsafe { bungero_combine(effects(bits)) };
-    let row = |each: GoverningRow| (each.tenths, each.row, each.double.to_bits());
+    let row = |each: GoverningRow| (each.tenths, each.row, each.value.to_bits());
     let rows = [row(combined.governing.greatest), row(combined.governing.least)];
-    let refusal = (combined.number, combined.place, combined.double.to_bits());
+    let refusal = (combined.number, combined.place, combined.value.to_bits());
     if combined.number != 0 {
         assert_eq!(rows, [NO_ROW; 2], "rows beside a refusal");
         return Err(refusal);

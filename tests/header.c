@@ -1,6 +1,7 @@
-/* Tries the header's calls from C and from C++: each field of what is lent and given, refusals, and wide numbers. */
+/* Tries the header's calls from C and from C++: each field of what is lent and given, refusals, wide numbers, and flags. */
 #include "bungero.h"
 
+#include <fenv.h>
 #include <inttypes.h>
 #include <stdio.h>
 #include <stdlib.h>
@@ -170,7 +171,7 @@ static void try_check(void)
 {
     bungero_checked checked = bungero_check(one_to_seven());
     expect("checking", checked.number, BUNGERO_ACCEPTED);
-    expect("place, none refused", checked.place, 0);
+    expect("effect, none refused", checked.place, 0);
     expect_double("value, none refused", checked.value, 0);
     expect_signed("dead", checked.newtons.dead, 1);
     expect_signed("live", checked.newtons.live, 2);
@@ -192,12 +193,12 @@ static void try_refused_effects(double refused, uint64_t number)
         *fields[at] = refused;
         bungero_checked checked = bungero_check(effects);
         expect("checking, refused", checked.number, number);
-        expect("checking, place", checked.place, at + 1);
+        expect("checking, effect", checked.place, at + 1);
         expect_double("checking, value", checked.value, refused);
         expect_signed("checking, no newtons", checked.newtons.dead, 0);
         bungero_combined combined = bungero_combine(effects);
         expect("combining, refused", combined.number, number);
-        expect("combining, place", combined.place, at + 1);
+        expect("combining, effect", combined.place, at + 1);
         expect_double("combining, value", combined.value, refused);
         expect("combining, no row", combined.governing.greatest.row, 0);
     }
@@ -217,7 +218,7 @@ static void try_combine(void)
     bungero_effects effects = {100000, 0, 0, 0, 0, 60000, 0};
     bungero_combined combined = bungero_combine(effects);
     expect("combining", combined.number, BUNGERO_ACCEPTED);
-    expect("place, none refused", combined.place, 0);
+    expect("effect, none refused", combined.place, 0);
     expect_double("value, none refused", combined.value, 0);
     expect_row("greatest", combined.governing.greatest, 14, 1800000);
     expect_row("least", combined.governing.least, 23, 300000);
@@ -225,28 +226,116 @@ static void try_combine(void)
     expect_row("least, below 0", bungero_combine(effects).governing.least, 23, -100000);
 }
 
-/* The report of no text, lent from nowhere; the rest of the buffer stays as it was. */
-static void try_report(void)
+/* The paper's sample, whose report is printed by examples/report. */
+static const char sample[] = "member=1\n"
+                             "floor=1 class=1 load=2000 area=1600\n"
+                             "floor=2 class=1 load=2000 area=1600\n"
+                             "dead=100000\nroof=-2\nsnow=3\nrain=-4\nwind=5\nquake=-6\n";
+
+/* Reading that must be refused: the number, the line and the part of the text. */
+static void expect_unread(const char *text, size_t length, uint64_t number, uint64_t line, size_t start, size_t end)
 {
-    static const char wanted[] = "refused=10 line=1\n";
+    bungero_reading reading = bungero_read((const uint8_t *)text, length);
+    expect("reading, refused", reading.number, number);
+    expect("reading, line", reading.line, line);
+    expect("reading, start", reading.start, start);
+    expect("reading, end", reading.end, end);
+}
+
+/* The sample read, each field of it, and its column entered on; refused texts, one of them lent from nowhere. */
+static void try_read(void)
+{
+    static const char too_long[32769] = {0};
+    size_t length = sizeof sample - 1;
+    bungero_reading reading = bungero_read((const uint8_t *)sample, length);
+    expect("reading", reading.number, BUNGERO_ACCEPTED);
+    expect("reading, last line", reading.line, 9);
+    expect("reading, start of nothing", reading.start, length);
+    expect("reading, end of nothing", reading.end, length);
+    expect_signed("sheet, dead", reading.effects.dead, 100000);
+    expect_signed("sheet, roof", reading.effects.roof, -2);
+    expect_signed("sheet, snow", reading.effects.snow, 3);
+    expect_signed("sheet, rain", reading.effects.rain, -4);
+    expect_signed("sheet, wind", reading.effects.wind, 5);
+    expect_signed("sheet, quake", reading.effects.quake, -6);
+    expect_working(&reading.column, 2, 2, 12800, 4185600);
+    expect("sheet, one line more", bungero_column_enter(&reading.column, line_of(3, 3, 1, 1)), BUNGERO_ACCEPTED);
+    expect_working(&reading.column, 3, 3, 12800, 4185600 + 1);
+    expect_unread(NULL, 0, BUNGERO_FORM, 1, 0, 0);
+    expect_unread(sample, length - 1, BUNGERO_FORM, 9, length - 9, length - 1);
+    expect_unread(sample, 9, BUNGERO_FORM, 2, 9, 9);
+    expect_unread("member=13\n", 10, BUNGERO_CODE, 1, 0, 9);
+    expect_unread(too_long, sizeof too_long, BUNGERO_TOO_LONG, 0, 0, 0);
+}
+
+/* A buffer that the report of a text was written to, and whether all past the report is as it was before. */
+static void expect_report(const char *text, size_t length, uint64_t number, uint64_t line, const char *report)
+{
     uint8_t out[BUNGERO_REPORT_ROOM], as_before[BUNGERO_REPORT_ROOM];
     memset(as_before, 0xa5, sizeof as_before);
     memcpy(out, as_before, sizeof out);
-    size_t length = bungero_report(NULL, 0, out);
-    expect("report, length", length, sizeof wanted - 1);
-    expect("report", memcmp(out, wanted, length) == 0, 1);
-    expect("the buffer past the report", memcmp(out + length, as_before + length, sizeof out - length) == 0, 1);
+    bungero_reported reported = bungero_report((const uint8_t *)text, length, out);
+    expect("report, number", reported.number, number);
+    expect("report, line", reported.line, line);
+    expect("report, length", reported.length, strlen(report));
+    expect("report", memcmp(out, report, strlen(report)) == 0, 1);
+    expect("the buffer past the report", memcmp(out + strlen(report), as_before, sizeof out - strlen(report)) == 0, 1);
+}
+
+/* The report of the sample, and of texts that are refused, one of them lent from nowhere: these write nothing. */
+static void try_report(void)
+{
+    size_t length = sizeof sample - 1;
+    expect_report(sample, length, BUNGERO_ACCEPTED, 9, "floor=1 floors=1 influence=6400 figure=2628800\n"
+                                                       "floor=2 floors=2 influence=12800 figure=4185600\n"
+                                                       "max=1869711 row=3\nmin=899940 row=24\n");
+    expect_report(NULL, 0, BUNGERO_FORM, 1, "");
+    expect_report(sample, length - 1, BUNGERO_FORM, 9, "");
+    expect_report("member=13\n", 10, BUNGERO_CODE, 1, "");
+}
+
+/* The column of a refused opening: entering and asking refuse, and nothing is touched. */
+static void try_unopened(void)
+{
+    bungero_column column = bungero_open(13).column;
+    expect_refused(&column, line_of(1, 1, 2000, 1600), BUNGERO_CODE);
+    expect_no_floor(&column, 1);
+    column = bungero_read(NULL, 0).column;
+    expect_refused(&column, line_of(1, 1, 2000, 1600), BUNGERO_CODE);
+    expect_no_floor(&column, 0);
+}
+
+/* Only a signalling NaN raises a flag: beside it a quiet one, an infinity, 1/2, a number beyond the limit, the least double. */
+static void try_flags(void)
+{
+    static const uint64_t bits[] = {0x7ff0000000000001, 0x7ff8000000000001, 0x7ff0000000000000, 0x3fe0000000000000,
+                                    0x4271f71fb04cb000, 0x0000000000000001};
+    for (int at = 0; at < 6; at++) {
+        bungero_effects effects = one_to_seven();
+        memcpy(&effects.wind, &bits[at], sizeof effects.wind);
+        feclearexcept(FE_ALL_EXCEPT);
+        bungero_checked checked = bungero_check(effects);
+        bungero_combined combined = bungero_combine(effects);
+        int raised = fetestexcept(FE_ALL_EXCEPT);
+        expect("a raised flag", raised, at == 0 ? FE_INVALID : 0);
+        expect("checking and combining alike", checked.number, combined.number);
+        expect("the refused double, bit for bit", memcmp(&checked.value, &bits[at], sizeof bits[at]) == 0, 1);
+    }
 }
 
 int main(void)
 {
+    expect("the layout", bungero_layout_1(), 1);
     try_column();
+    try_unopened();
     try_list();
     try_reduced_load();
     try_check();
     try_refused_effects(0.5, BUNGERO_NOT_WHOLE);
     try_refused_effects(-1000000000001.0, BUNGERO_BEYOND_LIMIT);
     try_combine();
+    try_flags();
+    try_read();
     try_report();
 #ifdef __cplusplus
     const char *language = "C++";

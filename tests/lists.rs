@@ -9,7 +9,7 @@ mod random;
 mod reckoning;
 
 use bungero::raw::bungero_figure_of;
-use bungero::{figure_of, Column, Line, Refused, RefusedLine, Working};
+use bungero::{figure_of, Column, Line, Refused, RefusedList, Working};
 use random::Random;
 use std::fs;
 
@@ -20,8 +20,8 @@ enum Answer {
     Refused(u64, u64),
 }
 
-fn line(floor: u64, class: u64, load: u64, area: u64) -> Line {
-    Line { floor, class, load, area }
+fn line(floor: u64, use_class: u64, load: u64, area: u64) -> Line {
+    Line { floor, use_class, load, area }
 }
 
 // Numbers that answer the call, the unused ones being 0.
@@ -52,7 +52,7 @@ fn gives(working: Working) -> Answer {
 fn listed_safely(code: u64, lines: &[Line], floor: u64) -> Answer {
     match figure_of(code, lines, floor) {
         Ok(working) => gives(working),
-        Err(RefusedLine { number, place }) => Answer::Refused(number, place),
+        Err(RefusedList { number, place }) => Answer::Refused(number, place),
     }
 }
 
@@ -72,7 +72,7 @@ fn entered(code: u64, lines: &[Line], floor: u64) -> Answer {
 
 // The same by the second reckoning.
 fn reckoned(code: u64, lines: &[Line], floor: u64) -> Answer {
-    let numbers: Vec<[u64; 4]> = lines.iter().map(|each| [each.floor, each.class, each.load, each.area]).collect();
+    let numbers: Vec<[u64; 4]> = lines.iter().map(|each| [each.floor, each.use_class, each.load, each.area]).collect();
     match reckoning::listed(code, &numbers, floor) {
         Ok((floors, influence, figure)) => Answer::Gives(floors, influence, figure),
         Err((number, place)) => Answer::Refused(number, place),
@@ -121,7 +121,7 @@ fn damaged(good: &Line, which: u64) -> Line {
     let mut bad = *good;
     match which {
         0 => bad.floor = 0,
-        1 => bad.class = 4,
+        1 => bad.use_class = 4,
         2 => bad.load = 50_001,
         _ => bad.area = (1 << 32) + 1,
     }
@@ -165,7 +165,7 @@ fn random_list(random: &mut Random, faults: u64) -> Vec<Line> {
         let mut each = line(floor, random.between(1, 3), random.between(1, 7000), random.between(1, most_area));
         if faults != 0 && random.below(faults) == 0 {
             let value = random.pick(&[0, 1, 4, 65, 257, 50_001, 65_536 + 2000, 200_001, (1 << 32) + 1, u64::MAX]);
-            *[&mut each.floor, &mut each.class, &mut each.load, &mut each.area][random.index(4)] = value;
+            *[&mut each.floor, &mut each.use_class, &mut each.load, &mut each.area][random.index(4)] = value;
         }
         lines.push(each);
     }

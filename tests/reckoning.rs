@@ -435,6 +435,15 @@ pub fn read(text: &[u8]) -> Result<Sheet, Refusal> {
     Ok(sheet)
 }
 
+// What reading a text says without the sheet: the number, the line K, and the start and the end of the part that is handed
+// back. A sheet that is read has number 0 and 'the empty part at the end'; the paper gives no K for it, here it is 0.
+pub fn reading(text: &[u8]) -> (u64, u64, usize, usize) {
+    match read(text) {
+        Ok(_) => (0, 0, text.len(), text.len()),
+        Err(Refusal { number, line, start, end }) => (number, line, start, end),
+    }
+}
+
 // The text of a sheet.
 pub fn written(sheet: &Sheet) -> Vec<u8> {
     let mut text = Vec::new();

@@ -84,12 +84,11 @@ fn try_stored() -> u64 {
     let (mut sheets, mut answers, mut tried) = (&sheets[..], &answers[..], 0);
     while !sheets.is_empty() {
         let (text, others) = next_stored(sheets);
-        let (start, end) = match reckoning::read(text) {
-            Ok(_) => (text.len(), text.len()),
-            Err(refusal) => (refusal.start, refusal.end),
-        };
+        let (number, line, start, end) = reckoning::reading(text);
+        let (report, refused) = (reckoning::report(text), format!("refused={number} line={line}\n").into_bytes());
+        assert_eq!(report == refused, number != 0, "number {number}, line {line} of stored sheet {}", tried + 1);
         let part = format!("start={start} end={end} part=").into_bytes();
-        let wanted = [&reckoning::report(text), &part, &text[start..end], b"\n"].concat();
+        let wanted = [&report, &part, &text[start..end], b"\n"].concat();
         let found = &answers[..wanted.len().min(answers.len())];
         assert!(found == wanted, "stored sheet {}:\n{}", tried + 1, String::from_utf8_lossy(&[found, &wanted].concat()));
         (sheets, answers, tried) = (others, &answers[wanted.len()..], tried + 1);

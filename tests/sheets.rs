@@ -1,6 +1,7 @@
-// Tries bungero_report beside the second reckoning on random sheets, good and mutated: `sheets COUNT [SECONDS [SEED]]`.
-// A text is lent between canaries or at a guard page; it must stay as it was, and so must all of the buffer but the report.
-// The status is 3 where the time was up before all were tried.
+// Tries bungero_read and bungero_report beside the second reckoning on random sheets, good and mutated:
+// `sheets COUNT [SECONDS [SEED]]`. A text is lent between canaries or at a guard page; it must stay as it was, and so must all
+// of the buffer but the report, and all of it where the sheet is refused. The status is 3 where the time was up before all
+// were tried.
 #[path = "../bindings/bungero.rs"]
 mod bungero;
 mod paper;
@@ -13,10 +14,10 @@ mod reckoning_trial;
 mod reports;
 mod texts;
 
-use bungero::raw::bungero_report;
+use bungero::raw::{bungero_read, bungero_report, Reading, Reported};
 use bungero::REPORT_ROOM;
 use random::Random;
-use reports::{number_of, REPORT_BOUND};
+use reports::{Reckoned, REPORT_BOUND};
 use std::fs;
 use std::ops::Range;
 use std::panic::catch_unwind;
@@ -119,19 +120,29 @@ fn places(case: u64, length: usize) -> (usize, usize) {
     }
 }
 
-// The call, with the text at the one place and the buffer at the other; the text may only be read where that is asked for.
-fn call(text: &Guarded, text_at: usize, length: usize, out: &Guarded, out_at: usize, is_protected: bool) -> usize {
+// Where a text of so many bytes and the buffer lie.
+struct Lent<'a> {
+    text: &'a Guarded,
+    text_at: usize,
+    length: usize,
+    out: &'a Guarded,
+    out_at: usize,
+}
+
+// Both calls, on what is lent; the text may only be read where that is asked for.
+fn call(lent: Lent, is_protected: bool) -> (Reading, Reported) {
     if is_protected {
-        text.allow(TO_READ);
+        lent.text.allow(TO_READ);
     }
-    let reported = unsafe {
-        let out = out.start.add(out_at).cast::<[u8; REPORT_ROOM]>();
-        bungero_report(text.start.add(text_at), length, out)
+    let given = unsafe {
+        let out = lent.out.start.add(lent.out_at).cast::<[u8; REPORT_ROOM]>();
+        let text = lent.text.start.add(lent.text_at);
+        (bungero_read(text, lent.length), bungero_report(text, lent.length, out))
     };
     if is_protected {
-        text.allow(TO_READ_AND_WRITE);
+        lent.text.allow(TO_READ_AND_WRITE);
     }
-    reported
+    given
 }
 
 // Both reports for the eye, with the length that the library gave.
@@ -145,11 +156,23 @@ fn differing(out: &[u8], length: usize, wanted: &[u8]) -> String {
     format!("the reports differ; the library's, of {length} bytes:\n{found}and the reckoning's, of {}:\n{reckoned}", wanted.len())
 }
 
-// Tries one case; gives the report, which both have alike.
-fn try_case(seed: u64, case: u64, text_memory: &mut Guarded, out_memory: &mut Guarded) -> Vec<u8> {
+// What is wrong in what the calls gave, where something is.
+fn wrong(reading: &Reading, reported: Reported, out: &[u8], wanted: &Reckoned) -> Option<String> {
+    if *reading != wanted.reading {
+        return Some(format!("read as {reading:?}, and by the reckoning as {:?}", wanted.reading));
+    }
+    if (reported.number, reported.line) != (wanted.reported.number, wanted.reported.line) {
+        return Some(format!("reported as {reported:?}, and by the reckoning as {:?}", wanted.reported));
+    }
+    let alike = reported.length == wanted.report.len() && out[..reported.length] == wanted.report;
+    (!alike).then(|| differing(out, reported.length, &wanted.report))
+}
+
+// Tries one case; gives what both have alike.
+fn try_case(seed: u64, case: u64, text_memory: &mut Guarded, out_memory: &mut Guarded) -> Reported {
     CASE.store(case, Relaxed);
     let text = random_text(&mut random_of(seed, case));
-    let reckoned = catch_unwind(|| reckoning::report(&text));
+    let reckoned = catch_unwind(|| Reckoned::of(&text));
     let wanted = reckoned.unwrap_or_else(|_| stop(seed, case, "the reckoning has no report"));
     let (text_at, out_at) = places(case, text.len());
     let (lent, around) = (text_memory.around(text_at, text.len()), out_memory.around(out_at, REPORT_ROOM));
@@ -160,22 +183,22 @@ fn try_case(seed: u64, case: u64, text_memory: &mut Guarded, out_memory: &mut Gu
     text_memory.bytes()[lent.clone()].copy_from_slice(&as_lent);
     let mut expected: Vec<u8> = around.clone().map(|at| (at as u8 ^ case as u8).wrapping_mul(151)).collect();
     out_memory.bytes()[around.clone()].copy_from_slice(&expected);
-    expected[out_at - around.start..][..wanted.len()].copy_from_slice(&wanted);
+    expected[out_at - around.start..][..wanted.report.len()].copy_from_slice(&wanted.report);
 
-    let length = call(text_memory, text_at, text.len(), out_memory, out_at, case % 8 == 0);
-    let out = &out_memory.bytes()[out_at..];
-    if length != wanted.len() || out[..length] != wanted {
-        stop(seed, case, &differing(out, length, &wanted));
+    let places = Lent { text: text_memory, text_at, length: text.len(), out: out_memory, out_at };
+    let (reading, reported) = call(places, case % 8 == 0);
+    if let Some(wrong) = wrong(&reading, reported, &out_memory.bytes()[out_at..], &wanted) {
+        stop(seed, case, &wrong);
     }
     let watched = &out_memory.bytes()[around.clone()];
     if let Some(at) = (0..watched.len()).find(|&at| watched[at] != expected[at]) {
         let byte = (around.start + at) as i64 - out_at as i64;
-        stop(seed, case, &format!("byte {byte} of the buffer was changed; the report has {length} bytes"));
+        stop(seed, case, &format!("byte {byte} of the buffer was changed; the report has {} bytes", reported.length));
     }
     if text_memory.bytes()[lent] != as_lent {
         stop(seed, case, "the lent text, or a byte beside it, was changed");
     }
-    wanted
+    reported
 }
 
 // What was met: how many sheets of each number, 0 for those that are read, and the longest report.
@@ -218,9 +241,9 @@ fn try_cases(count: u64, seed: u64, time: Option<Duration>) -> Tally {
     let begun = Instant::now();
     let mut tally = Tally::default();
     for case in 1..=count {
-        let report = try_case(seed, case, &mut text_memory, &mut out_memory);
-        tally.numbers[number_of(&report)] += 1;
-        tally.longest = tally.longest.max(report.len());
+        let reported = try_case(seed, case, &mut text_memory, &mut out_memory);
+        tally.numbers[reported.number as usize] += 1;
+        tally.longest = tally.longest.max(reported.length);
         if case % 64 == 0 && time.is_some_and(|time| begun.elapsed() >= time) {
             break;
         }

@@ -6,9 +6,12 @@ sys.dont_write_bytecode = True  # leave no .pyc behind
 
 import re
 import unittest
+from collections import Counter
 from fractions import Fraction
+from itertools import product
 from math import ceil, isqrt
 from pathlib import Path
+from unittest.mock import patch
 
 sys.path.insert(0, str(Path(__file__).resolve().parent))
 
@@ -24,6 +27,7 @@ from reckoning.column import (
     carried,
     column_of,
     enter,
+    entries_of,
     entry_number,
     exact_total,
     influence_area,
@@ -32,6 +36,9 @@ from reckoning.column import (
     require_first,
     sign_of,
 )
+from reckoning.lists import first_refused
+from reckoning.paper import PAPER_ROWS
+from reckoning.passed import Passed, accepted_of, passed_by_accepted, passed_by_entering, passed_over
 from reckoning.reduction import (
     TABLE_4_2,
     Answer,
@@ -42,6 +49,7 @@ from reckoning.reduction import (
     uncapped_load,
 )
 
+NONE_PASSED = "refusals=0 first=0 place=0"
 INFLUENCES = (0, 1, 3_699, 3_700, 3_712, 3_713, 6_400, 10_000, 33_415, 33_416, 92_821, 92_822, 10**6, 2**64 - 1)
 
 
@@ -50,6 +58,11 @@ def reduced(load, cls, floors, influence):
     answer = reduced_load(load, cls, floors, influence)
     assert answer.refused is None, answer
     return answer.value
+
+
+def by_squares(load, influence, r):
+    """Whether '4R >= Lo and 25 * X * (4R - Lo)^2 >= (914 * Lo)^2': r is not below the unclamped formula."""
+    return 4 * r >= load and 25 * influence * (4 * r - load) ** 2 >= (914 * load) ** 2
 
 
 class Factor(unittest.TestCase):
@@ -71,11 +84,23 @@ class PaperFigures(unittest.TestCase):
 
     def test_table(self):
         """Every row gives the printed R, and the printed R is the least by the definition."""
-        for load, cls, floors, influence, printed in trial_reduction.PAPER_FIGURES:
-            for x in INFLUENCES if influence is None else (influence,):
-                with self.subTest(load=load, cls=cls, floors=floors, influence=x):
-                    self.assertEqual(reduced(load, cls, floors, x), printed)
-                    self.assertTrue(is_least(load, cls, floors, x, printed))
+        for row in PAPER_ROWS:
+            for x in INFLUENCES if row.influence is None else (row.influence,):
+                with self.subTest(row=row, influence=x):
+                    if row.is_uncapped:
+                        self.assertEqual(uncapped_load(row.load, x), row.r)
+                        self.assertEqual([by_squares(row.load, x, row.r - less) for less in (0, 1)], [True, False])
+                    else:
+                        self.assertEqual(reduced(row.load, row.cls, row.floors, x), row.r)
+                        self.assertTrue(is_least(row.load, row.cls, row.floors, x, row.r))
+
+    def test_rows(self):
+        """13 printed rows, of which two have two counts and one has an uncapped R beside the other; 13 rows have P."""
+        self.assertEqual(len(PAPER_ROWS), 13 + 2 + 1)
+        self.assertEqual(len(set(PAPER_ROWS)), len(PAPER_ROWS))
+        self.assertEqual(sum(row.is_proved for row in PAPER_ROWS), 13)
+        self.assertEqual([row.r for row in PAPER_ROWS if not row.is_proved], [2_000, 2_500, 2_000])
+        self.assertEqual([row.r for row in PAPER_ROWS if row.is_uncapped], [2_003])
 
     def test_sheet_example(self):
         """Floors 1 and 2 of the sheet print figures 2,628,800 and 4,185,600."""
@@ -426,6 +451,74 @@ class WholeLists(unittest.TestCase):
         self.assertEqual(ask_list(1, numbers[: 4 * 256 - 1], 1), Asked(1, 0, 255))
 
 
+class PassedOver(unittest.TestCase):
+    """The refused entries of a list: how many, and the number and the place of the first."""
+
+    GOOD = (5, 1, 2_000, 1_600)
+    WRONG = {3: (65, 4, 0, 0), 4: (5, 0, 0, 0), 5: (5, 1, 50_001, 0), 6: (5, 1, 2_000, 200_001)}
+
+    def test_none(self):
+        """All 0 where no entry is refused, where there is none, and where opening is refused."""
+        for entries in ((), (self.GOOD,), (self.GOOD,) * 256):
+            self.assertEqual(passed_over(1, flat(entries)), Passed(0, 0, 0))
+        for code in (0, 13, 257, 2**64 - 1):
+            for entries in ((), (self.GOOD,), (self.WRONG[4],) * 3):
+                self.assertEqual(passed_over(code, flat(entries)), Passed(0, 0, 0))
+
+    def test_places(self):
+        """Each number as the first one, at each place of a list, alone and with others after it."""
+        for number, wrong in self.WRONG.items():
+            for place in range(1, 7):
+                entries = [self.GOOD] * (place - 1) + [wrong] + [self.GOOD] * (6 - place)
+                self.assertEqual(passed_over(12, flat(entries)), Passed(1, number, place))
+                for other in self.WRONG.values():
+                    self.assertEqual(passed_over(7, flat([*entries, other])), Passed(2, number, place))
+
+    def test_floor_of_accepted_lines(self):
+        """A refused line's floor binds nothing; each line above the last accepted one is refused with 3."""
+        entries = ((9, 0, 1, 1), (2, 1, 9, 9), (10, 4, 9, 9), (3, 1, 9, 9), (2, 1, 9, 9), (2, 1, 9, 9), (64, 1, 9, 9))
+        self.assertEqual(passed_over(1, flat(entries)), Passed(4, 4, 1))
+        self.assertEqual(passed_over(1, flat(entries[1:])), Passed(3, 4, 2))
+        self.assertEqual(passed_over(1, flat(entries[3:])), Passed(2, 3, 2))
+
+    def test_full_column(self):
+        """Past 256 accepted lines everything is refused, with 2 whatever else is wrong."""
+        for wrong in (self.GOOD, *self.WRONG.values(), (0, 0, 0, 0)):
+            self.assertEqual(passed_over(1, flat([self.GOOD] * 256 + [wrong] * 44)), Passed(44, 2, 257))
+        self.assertEqual(passed_over(1, flat([self.GOOD] * 255 + [self.WRONG[6]] + [self.GOOD] * 3)), Passed(3, 6, 256))
+        self.assertEqual(passed_over(1, flat([self.WRONG[5]] * 300)), Passed(300, 5, 1))
+
+    def test_remainder_is_no_entry(self):
+        """One to three numbers at the end are not refused, nor is an entry with some of its numbers left off."""
+        numbers = flat((self.GOOD, self.WRONG[3]))
+        self.assertEqual(passed_over(1, [*numbers, 0, 0, 0]), Passed(1, 3, 2))
+        for left_off in (1, 2, 3, 4):
+            self.assertEqual(passed_over(1, numbers[:-left_off]), Passed(0, 0, 0))
+
+    def test_by_lot(self):
+        """The accepted lines told from the whole list are those of entering; the first refused as in the list call."""
+        lot, firsts = trial_reduction.Lot(17), set()
+        for _ in range(400):
+            script = trial_column.Script()
+            script.open(lot.between(1, 12))
+            trial_column.enter_by_lot(script, lot, lot.between(0, 30), lot.one_of((0, 2, 5, 20)))
+            entries = entries_of(script.numbers)
+            self.assertEqual(accepted_of(entries), script.column.lines)
+            passed, first = passed_over(script.code, script.numbers), first_refused(entries)
+            self.assertEqual(passed.count, len(entries) - len(script.column.lines))
+            self.assertEqual((passed.first, passed.place), (0, 0) if first is None else (first.refused, first.place))
+            firsts.add(passed.first)
+        self.assertEqual(firsts, {0, 3, 4, 5, 6})
+
+    def test_ways_can_differ(self):
+        """Each way has its own eye: with the other one's answer changed, the making stops."""
+        entries = entries_of(flat((self.GOOD, self.WRONG[3], self.GOOD)))
+        self.assertEqual(passed_by_entering(1, entries), passed_by_accepted(1, entries))
+        for wrong in (Passed(2, 3, 2), Passed(1, 4, 2), Passed(1, 3, 1), Passed(0, 0, 0)):
+            with patch("reckoning.passed.passed_by_entering", return_value=wrong):
+                self.assertRaises(AssertionError, passed_over, 1, flat((self.GOOD, self.WRONG[3], self.GOOD)))
+
+
 class Scripts(unittest.TestCase):
     """What the trial program keeps from question to question."""
 
@@ -437,7 +530,7 @@ class Scripts(unittest.TestCase):
         script.ask(1)
         script.list(1)
         told = "floors=1 influence=6400 figure=2628800"
-        self.assertEqual(script.prints, ["refused=7", "number=0", told, told])
+        self.assertEqual(script.prints, ["refused=7", "number=0", told, f"{told} {NONE_PASSED}"])
 
     def test_refused_open(self):
         """The column of before stays and takes the next lines; a list has the refused code."""
@@ -449,7 +542,8 @@ class Scripts(unittest.TestCase):
         script.enter(2, 1, 2_000, 1_600)
         script.ask(2)
         script.list(2)
-        after = ["number=1", "refused=1", "number=0", "floors=2 influence=12800 figure=4185600", "refused=1"]
+        in_list = f"refused=1 {NONE_PASSED}"
+        after = ["number=1", in_list, "number=0", "floors=2 influence=12800 figure=4185600", in_list]
         self.assertEqual(script.prints[2:], after)
 
     def test_good_open(self):
@@ -462,8 +556,24 @@ class Scripts(unittest.TestCase):
         script.enter(1, 1, 2_000, 6_400)
         script.list(1, 0)
         script.list(1, 3)
-        after = ["refused=7", "refused=7", "number=0", "floors=1 influence=6400 figure=10515200", "refused=7"]
-        self.assertEqual(script.prints[2:], after)
+        empty, told = f"refused=7 {NONE_PASSED}", f"floors=1 influence=6400 figure=10515200 {NONE_PASSED}"
+        self.assertEqual(script.prints[2:], ["refused=7", empty, "number=0", told, empty])
+
+    def test_refused_entries(self):
+        """A list says how many entries were passed over, and of the first its number and its place."""
+        script = trial_column.Script()
+        script.open(1)
+        for entry in ((1, 1, 2_000, 1_600), (2, 4, 0, 0), (2, 1, 2_000, 0), (2, 1, 2_000, 1_600), (1, 1, 2_000, 1_600)):
+            script.enter(*entry)
+        for floor, left_off in ((2, 0), (2, 1), (3, 0), (2, 3)):
+            script.list(floor, left_off)
+        script.open(0)
+        script.enter(2, 4, 0, 0)
+        script.list(2)
+        told = "floors=2 influence=12800 figure=4185600"
+        after = [f"{told} refusals=3 first=4 place=2", f"{told} refusals=2 first=4 place=2"]
+        after += ["refused=7 refusals=3 first=4 place=2", f"{told} refusals=2 first=4 place=2"]
+        self.assertEqual(script.prints[6:], [*after, "number=1", "number=4", f"refused=1 {NONE_PASSED}"])
 
 
 class ExactTotal(unittest.TestCase):
@@ -567,7 +677,7 @@ class Texts(unittest.TestCase):
         ("open N", "number=[01]"),
         ("enter N N N N", "number=[02-6]"),
         ("ask N", "floors=N influence=N figure=N|refused=7"),
-        ("list N [0-3]", "floors=N influence=N figure=N|refused=[17]"),
+        ("list N [0-3]", "(?:floors=N influence=N figure=N|refused=[17]) refusals=N first=[02-6] place=N"),
     )
 
     @classmethod
@@ -578,8 +688,24 @@ class Texts(unittest.TestCase):
         cls.pairs = list(zip(cls.stdin.splitlines(), cls.stdout.splitlines()))
 
     def count(self, word, printed):
-        """How many questions of a word have this printed line."""
-        return sum(read.split()[0] == word and line == printed for read, line in self.pairs)
+        """How many questions of a word have this printed line, but for what a list says was passed over."""
+        return sum(read.split()[0] == word and line.split(" refusals=")[0] == printed for read, line in self.pairs)
+
+    def lists(self):
+        """For each list, from the texts alone: the printed numbers of its entries, and what it says was passed over.
+
+        There are None where opening the member is refused; its entries went to the column of before.
+        """
+        numbers = []
+        for read, printed in self.pairs[trial_reduction.case_count() :]:
+            word, *given = read.split()
+            if word == "open":
+                numbers = [] if printed == "number=0" else None
+            elif word == "enter" and numbers is not None:
+                numbers.append(int(printed.removeprefix("number=")))
+            elif word == "list":
+                whole = None if numbers is None else numbers[: max(4 * len(numbers) - int(given[1]), 0) // 4]
+                yield whole, tuple(int(part.split("=")[1]) for part in printed.split()[-3:])
 
     def test_form(self):
         """One printed line for each line read, of a form that fits it; plain numbers of at most 20 digits."""
@@ -623,6 +749,31 @@ class Texts(unittest.TestCase):
         asking = [("ask", "refused=7"), ("list", "refused=1"), ("list", "refused=7")]
         for word, printed in (("open", "number=1"), *entering, *asking):
             self.assertGreaterEqual(self.count(word, printed), 50, (word, printed))
+
+    def test_passed_over(self):
+        """What a list says was passed over is what the entries before it printed."""
+        for numbers, passed in self.lists():
+            refused = [(number, place) for place, number in enumerate(numbers or (), start=1) if number != 0]
+            self.assertEqual(passed, (len(refused), *refused[0]) if refused else (0, 0, 0))
+
+    def test_every_place_is_there(self):
+        """Lists with no refused entry, one, several and nothing else; of each number the first at every place."""
+        found = Counter()
+        for numbers, (count, first, place) in self.lists():
+            if numbers is None:
+                found["code"] += 1
+            elif count == 0:
+                found["none" if numbers else "empty"] += 1
+            else:
+                many = "one" if count == 1 else "all" if count == len(numbers) else "several"
+                where = {1: "first", len(numbers): "last"}.get(place, "middle")
+                found.update((many, (first, where), (first, many)))
+        for kind in ("code", "none", "empty", "one", "several", "all"):
+            self.assertGreaterEqual(found[kind], 50, found)
+        for first, kind in product((3, 4, 5, 6), ("first", "middle", "last", "one", "several", "all")):
+            self.assertGreaterEqual(found[first, kind], 5, (first, kind))
+        for kind in ("middle", "last", "one", "several"):
+            self.assertGreaterEqual(found[2, kind], 5, kind)
 
     def test_enough(self):
         """At least 5,000 generated cases of K and R, 1,500 columns, and every good code."""

@@ -4,17 +4,21 @@ import sys
 
 sys.dont_write_bytecode = True  # leave no .pyc behind
 
+import io
 import re
 import unittest
 from collections import Counter
+from contextlib import redirect_stdout
 from fractions import Fraction
 from functools import lru_cache
 from itertools import combinations, permutations
 from math import ceil
 from pathlib import Path
+from tempfile import TemporaryDirectory
 
 sys.path.insert(0, str(Path(__file__).resolve().parent))
 
+import make_sheets
 from reckoning import trial_sheet, trial_sheet_damaged, trial_sheet_read
 from reckoning.column import Column, Line, ask, conditions
 from reckoning.combination import LIMIT, TABLE, combined, sums_by_table
@@ -851,6 +855,46 @@ class Texts(unittest.TestCase):
         """The sheets come out the same when they are made anew."""
         again = [sheet for kind in trial_sheet.cases_by_kind().values() for sheet in kind]
         self.assertEqual(tuple(again), trial_sheet.sheets())
+
+
+class SheetsOfTakedown(unittest.TestCase):
+    """The sheets that make_sheets.py writes for the trial of takedown."""
+
+    def written(self):
+        """The files of a folder by name, written by the script, and its exit status."""
+        with TemporaryDirectory() as folder, redirect_stdout(io.StringIO()):
+            status = make_sheets.main([str(Path(folder) / "new")])
+            return status, {path.name: path.read_bytes() for path in (Path(folder) / "new").iterdir()}
+
+    def test_files(self):
+        """Three sheets, each with its report: one of 256 lines, one of 32,768 bytes, and one of a byte more."""
+        status, files = self.written()
+        names = [f"{name}.{ending}" for name in ("lines256", "longest", "toolong") for ending in ("expected", "txt")]
+        self.assertEqual((status, sorted(files)), (0, names))
+        for name in make_sheets.sheets():
+            self.assertEqual(files[f"{name}.expected"], report(files[f"{name}.txt"]))
+        self.assertEqual(files["lines256.txt"].count(b"\nfloor="), 256)
+        self.assertEqual(files["lines256.expected"].count(b"\n"), 26 + 2)
+        self.assertEqual([len(files[f"{name}.txt"]) for name in ("longest", "toolong")], [32_768, 32_769])
+        self.assertEqual(files["longest.expected"], b"refused=10 line=263\n")
+        self.assertEqual(files["toolong.expected"], b"refused=11 line=0\n")
+        self.assertEqual(files["toolong.txt"][:-1], files["longest.txt"])
+
+    def test_live_effect_counts(self):
+        """The figure at the last floor is in the greatest sum: another load in the first line gives another max."""
+        text = make_sheets.sheet_of_256_lines()
+        first = text.split(b"\n")[1]
+        other = text.replace(first, re.sub(b"load=[0-9]+", b"load=50000", first), 1)
+        self.assertNotEqual(other, text)
+        self.assertNotEqual(*(report(each).split(b"\n")[-3] for each in (text, other)))
+
+    def test_only_the_last_line_is_wrong(self):
+        """With a number of 13 digits at most in its last line the longest text is read, if it is within the limit."""
+        longest = make_sheets.longest_text()
+        start = longest.rindex(b"=") + 1
+        self.assertEqual(read(longest[:start] + b"0\n").number, 0)
+        self.assertEqual(read(longest[:start] + b"9" * 13 + b"\n").number, 9)
+        self.assertEqual(read(longest[:start] + b"9" * 14 + b"\n").number, 10)
 
 
 if __name__ == "__main__":

@@ -1,5 +1,5 @@
-// Tries the safe calls for Rust: the layout of C's structs, the figures that the paper prints, every refusal by its name,
-// and random reduced loads.
+// Tries the safe calls for Rust: the figures that the paper prints, every refusal by its name, sheets read and refused, and
+// random reduced loads.
 #[path = "../bindings/bungero.rs"]
 mod bungero;
 mod paper;
@@ -10,67 +10,83 @@ mod random;
 mod reckoning;
 
 use bungero::refusal::*;
-use bungero::{check, combine, figure_of, raw, reduced_load, report, report_into};
-use bungero::{Column, Effects, GoverningRow, Line, Newtons, Refused, RefusedEffect, RefusedLine, Working, REPORT_ROOM};
+use bungero::{check, combine, figure_of, raw, read, reduced_load, report, report_into, LINES, REPORT_ROOM};
+use bungero::{Column, Effects, GoverningRow, Line, Newtons, Sheet, SheetEffects, Working};
+use bungero::{Refused, RefusedEffect, RefusedList, RefusedSheet};
 use paper::{SAMPLE, SAMPLE_REPORT};
 use random::Random;
-use std::mem::{align_of, offset_of, size_of};
 
-// Stops where a struct has not the size, the alignment or the offsets that the library was built for.
-macro_rules! layout {
-    ($name:ident, size $size:expr, align $align:expr, $($field:ident $offset:expr),+) => {
-        assert_eq!((size_of::<raw::$name>(), align_of::<raw::$name>()), ($size, $align), stringify!($name));
-        $(assert_eq!(offset_of!(raw::$name, $field), $offset, concat!(stringify!($name), ".", stringify!($field)));)+
-    };
-}
-
-fn line(floor: u64, class: u64, load: u64, area: u64) -> Line {
-    Line { floor, class, load, area }
+fn line(floor: u64, use_class: u64, load: u64, area: u64) -> Line {
+    Line { floor, use_class, load, area }
 }
 
 fn working(floors: u64, influence: u64, figure: u64) -> Working {
     Working { floors, influence, figure }
 }
 
-// Every struct's layout.
-fn try_layout() {
-    layout!(Line, size 32, align 8, floor 0, class 8, load 16, area 24);
-    layout!(Member, size 1, align 1, code 0);
-    layout!(Column, size 2056, align 8, member 0, count 2, held 8);
-    layout!(BungeroOpened, size 2064, align 8, number 0, column 8);
-    layout!(BungeroEntered, size 16, align 8, number 0, count 8);
-    layout!(BungeroFigure, size 32, align 8, number 0, floors 8, influence 16, figure 24);
-    layout!(BungeroReduced, size 16, align 8, number 0, reduced 8);
-    layout!(BungeroListed, size 40, align 8, number 0, place 8, floors 16, influence 24, figure 32);
-    layout!(Effects, size 56, align 8, dead 0, live 8, roof 16, snow 24, rain 32, wind 40, quake 48);
-    layout!(Newtons, size 56, align 8, dead 0, live 8, roof 16, snow 24, rain 32, wind 40, quake 48);
-    layout!(BungeroChecked, size 80, align 8, number 0, place 8, double 16, newtons 24);
-    layout!(GoverningRow, size 24, align 8, row 0, tenths 8, double 16);
-    layout!(Governing, size 48, align 8, greatest 0, least 24);
-    layout!(BungeroCombined, size 72, align 8, number 0, place 8, double 16, governing 24);
-}
-
 // The sample's report, by both calls: `report_into` leaves the rest of the buffer as it was.
 fn try_report() {
-    let sample = report(SAMPLE);
+    let sample = report(SAMPLE).unwrap();
     assert_eq!(sample.as_bytes(), SAMPLE_REPORT);
     assert_eq!((&sample[..], sample.to_string().as_bytes()), (SAMPLE_REPORT, SAMPLE_REPORT));
     assert_eq!(sample, sample.clone());
+    assert_ne!(sample, report(b"member=1\ndead=0\nroof=0\nsnow=0\nrain=0\nwind=0\nquake=0\n").unwrap());
     for fill in [0, 0xff] {
         let mut out = [fill; REPORT_ROOM];
-        let length = report_into(SAMPLE, &mut out);
+        let length = report_into(SAMPLE, &mut out).unwrap();
         assert_eq!(&out[..length], SAMPLE_REPORT);
         assert!(out[length..].iter().all(|&byte| byte == fill));
     }
+}
+
+// The sample read: its lines entered, its effects; the column is asked and entered on.
+fn try_read() {
+    let Sheet { mut column, effects } = read(SAMPLE).unwrap();
+    assert_eq!(effects, SheetEffects { dead: 100_000, ..SheetEffects::default() });
+    assert_eq!(<[i64; 6]>::from(effects), [100_000, 0, 0, 0, 0, 0]);
+    let mut entered = Column::open(1).unwrap();
+    for floor in [1, 2] {
+        entered.enter(line(floor, 1, 2000, 1600)).unwrap();
+    }
+    assert_eq!(column, entered);
+    assert_eq!(column.ask(2), Ok(working(2, 12_800, 4_185_600)));
+    assert_eq!(column.enter(line(1, 1, 2000, 1600)), Err(Refused { number: FLOOR }));
+    column.enter(line(3, 3, 1, 1)).unwrap();
+    assert_eq!(column.ask(3).map(|working| working.floors), Ok(3));
+    let text = b"member=12\ndead=-1\nroof=2\nsnow=-3\nrain=4\nwind=-5\nquake=6\n";
+    assert_eq!(<[i64; 6]>::from(read(text).unwrap().effects), [-1, 2, -3, 4, -5, 6]);
+}
+
+// Refused sheets, by both calls: number, line, and the part in the caller's own text; no byte of the buffer is written.
+fn try_refused_sheets() {
+    let long = [b'\n'; 32_769];
+    let cases: [(&[u8], u64, u64, usize, usize); 7] = [
+        (b"", FORM, 1, 0, 0),
+        (b"member=13\n", CODE, 1, 0, 9),
+        (b"member=1\n", FORM, 2, 9, 9),
+        (b"member=1\nfloor=1 class=1 load=0 area=1\n", LOAD, 2, 9, 38),
+        (b"member=1\ndead=1000000000001\nroof", BEYOND_LIMIT, 2, 9, 27),
+        (b"member=1\ndead=1", FORM, 2, 9, 15),
+        (&long, TOO_LONG, 0, 0, 0),
+    ];
+    for (text, number, line, start, end) in cases {
+        let refused = RefusedSheet { number, line, part: &text[start..end] };
+        let read_as = read(text).unwrap_err();
+        assert_eq!(read_as, refused);
+        assert_eq!(read_as.part.as_ptr(), text[start..].as_ptr(), "the part is not in the caller's own text");
+        assert_eq!(read_as.to_string(), format!("refused={number} line={line}"));
+        assert_eq!(report(text), Err(refused));
+        for fill in [0, 0xff] {
+            let mut out = [fill; REPORT_ROOM];
+            assert_eq!(report_into(text, &mut out), Err(refused));
+            assert!(out.iter().all(|&byte| byte == fill), "a refused sheet wrote to the buffer");
+        }
+    }
     let mut out = [0; REPORT_ROOM];
-    let length = unsafe { raw::bungero_report(std::ptr::null(), 0, &mut out) };
-    assert_eq!(&out[..length], b"refused=10 line=1\n", "no text, lent from nowhere");
-    let refused = |number: u64, line: u64| format!("refused={number} line={line}\n");
-    assert_eq!(report(b"").to_string(), refused(FORM, 1));
-    assert_eq!(report(b"member=13\n").to_string(), refused(CODE, 1));
-    assert_eq!(report(&[0; 32_768]).to_string(), refused(FORM, 1));
-    assert_eq!(report(&[0; 32_769]).to_string(), refused(TOO_LONG, 0));
-    assert_ne!(report(b""), sample);
+    let reported = unsafe { raw::bungero_report(std::ptr::null(), 0, &mut out) };
+    assert_eq!(reported, raw::Reported { number: FORM, line: 1, length: 0 }, "no text, lent from nowhere");
+    let reading = unsafe { raw::bungero_read(std::ptr::null(), 0) };
+    assert_eq!((reading.number, reading.line, reading.start, reading.end), (FORM, 1, 0, 0), "no text, lent from nowhere");
 }
 
 // The paper's two columns, by the list call and by the column's own calls.
@@ -112,19 +128,19 @@ fn try_effects() {
     let effects = Effects { dead: 100_000.0, wind: 60_000.0, rain: -0.0, ..Effects::default() };
     assert_eq!(check(effects), Ok(Newtons { dead: 100_000, wind: 60_000, ..Newtons::default() }));
     let governing = combine(effects).unwrap();
-    assert_eq!(governing.greatest, GoverningRow { row: 14, tenths: 1_800_000, double: 1_800_000.0 });
-    assert_eq!(governing.least, GoverningRow { row: 23, tenths: 300_000, double: 300_000.0 });
+    assert_eq!(governing.greatest, GoverningRow { row: 14, tenths: 1_800_000, value: 1_800_000.0 });
+    assert_eq!(governing.least, GoverningRow { row: 23, tenths: 300_000, value: 300_000.0 });
     let signalling = f64::from_bits(0xfff0_0000_0000_0001);
-    let not_whole = [0.5, f64::NEG_INFINITY, f64::NAN, signalling].map(|double| (double, NOT_WHOLE));
-    let beyond = [1e12 + 1.0, f64::MAX].map(|double| (double, BEYOND_LIMIT));
-    for (double, number) in not_whole.into_iter().chain(beyond) {
+    let not_whole = [0.5, f64::NEG_INFINITY, f64::NAN, signalling].map(|value| (value, NOT_WHOLE));
+    let beyond = [1e12 + 1.0, f64::MAX].map(|value| (value, BEYOND_LIMIT));
+    for (value, number) in not_whole.into_iter().chain(beyond) {
         for place in 1..=7 {
             let mut doubles = [-1e12; 7];
-            doubles[place as usize - 1] = double;
-            let refused = RefusedEffect { number, place, double };
+            doubles[place as usize - 1] = value;
+            let refused = RefusedEffect { number, place, value };
             assert_eq!(check(doubles.into()), Err(refused));
             assert_eq!(combine(doubles.into()).unwrap_err(), refused);
-            assert_ne!(refused, RefusedEffect { double: f64::from_bits(double.to_bits() ^ 1), ..refused });
+            assert_ne!(refused, RefusedEffect { value: f64::from_bits(value.to_bits() ^ 1), ..refused });
         }
     }
 }
@@ -133,7 +149,7 @@ fn try_effects() {
 fn try_column_refusals() {
     for code in [0, 13, 256 + 1, (1 << 32) + 1, u64::MAX] {
         assert_eq!(Column::open(code), Err(Refused { number: CODE }));
-        assert_eq!(figure_of(code, &[], 1), Err(RefusedLine { number: CODE, place: 0 }));
+        assert_eq!(figure_of(code, &[], 1), Err(RefusedList { number: CODE, place: 0 }));
     }
     let mut column = Column::open(12).unwrap();
     let no_such_floor = Refused { number: NO_SUCH_FLOOR };
@@ -145,24 +161,25 @@ fn try_column_refusals() {
         let before = column.clone();
         assert_eq!(column.enter(each), Err(Refused { number }));
         assert!(column == before, "a refused line changed the column");
-        assert_eq!(figure_of(12, &[line(2, 1, 2000, 100), each], 2), Err(RefusedLine { number, place: 2 }));
+        assert_eq!(figure_of(12, &[line(2, 1, 2000, 100), each], 2), Err(RefusedList { number, place: 2 }));
     }
-    for _ in 1..256 {
+    for _ in 1..LINES {
         column.enter(line(2, 1, 2000, 100)).unwrap();
     }
     let full = column.clone();
     assert_eq!(column.enter(line(1, 4, 0, 0)), Err(Refused { number: FULL }));
     assert!(column == full, "a refused line changed the full column");
     assert_eq!([1, 3, 64, 65, 256 + 2].map(|floor| column.ask(floor)), [Err(no_such_floor); 5]);
-    assert_eq!(column.ask(2).ok(), figure_of(12, &[line(2, 1, 2000, 100); 256], 2).ok());
+    assert_eq!(column.ask(2).ok(), figure_of(12, &[line(2, 1, 2000, 100); LINES], 2).ok());
 }
 
 // How refusals are printed, each as an error of Rust's.
 fn try_display() {
     let shown = |refused: &dyn std::error::Error| refused.to_string();
     assert_eq!(shown(&Refused { number: FULL }), "refused=2");
-    assert_eq!(shown(&RefusedLine { number: AREA, place: 12 }), "refused=6 line=12");
-    assert_eq!(shown(&RefusedEffect { number: NOT_WHOLE, place: 7, double: -0.5 }), "refused=8 effect=7 double=-0.5");
+    assert_eq!(shown(&RefusedList { number: AREA, place: 12 }), "refused=6 place=12");
+    assert_eq!(shown(&RefusedSheet { number: FORM, line: 3, part: b"" }), "refused=10 line=3");
+    assert_eq!(shown(&RefusedEffect { number: NOT_WHOLE, place: 7, value: -0.5 }), "refused=8 place=7 value=-0.5");
 }
 
 // A load, a class, a count of floors and an influence area; loads and classes are good more often than not.
@@ -197,13 +214,15 @@ fn try_random_loads(count: u64) -> u64 {
 }
 
 fn main() {
-    try_layout();
     try_report();
+    try_read();
+    try_refused_sheets();
     try_printed_columns();
     try_printed_loads();
     try_effects();
     try_column_refusals();
     try_display();
+    assert_eq!(unsafe { raw::bungero_layout_1() }, 1);
     println!("the safe calls give the paper's figures and refusals");
     println!("1000000 random reduced loads as in the second reckoning, {} refused", try_random_loads(1_000_000));
 }

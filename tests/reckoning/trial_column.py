@@ -1,9 +1,11 @@
 """Makes the questions of the trial about columns: the lines the trial program reads and the lines it is to print."""
 
 from functools import lru_cache
-from itertools import combinations
+from itertools import combinations, product
 
 from reckoning.column import Line, ask, ask_list, column_of, enter, open_member, require_asked, require_first
+from reckoning.paper import INTERIOR, SHEET
+from reckoning.passed import Passed, passed_over
 from reckoning.trial_reduction import FAR_CODES, GREATEST, Lot, at_whole_load, near_whole_load, require
 
 MOST_ENTRIES = 300  # after one line 'open'
@@ -62,14 +64,20 @@ class Script:
         return answer
 
     def list(self, floor, left_off=0):
-        """Asks at a floor after all entries since 'open' as one list, its last numbers left off."""
+        """Asks at a floor after all entries since 'open' as one list, its last numbers left off.
+
+        Gives what was passed over of the list.
+        """
         numbers = self.numbers[: max(len(self.numbers) - left_off, 0)]
         answer = ask_list(self.code, numbers, floor)
         number, column = column_of(self.code, numbers)
         if number == 0:
             require_asked(column, floor, answer)
         require(number == 0 or answer.refused == 1, f"code {self.code} is not refused in a list")
-        self.put(("list", floor, left_off), told(answer))
+        passed = passed_over(self.code, numbers)
+        over = f"refusals={passed.count} first={passed.first} place={passed.place}"
+        self.put(("list", floor, left_off), f"{told(answer)} {over}")
+        return passed
 
     def floors(self):
         """The floors that have an accepted line, top first."""
@@ -127,10 +135,6 @@ def column(script, lot, code, entries):
 
 
 # ---- (a) The paper's columns ---------------------------------------------
-
-# Code, entries, and the printed floor, n, X and figure.
-INTERIOR = (1, ((1, 1, 6_000, 10_000), (2, 1, 2_000, 100)), ((1, 1, 0, 60_000_000), (2, 2, 400, 48_200_000)))
-SHEET = (1, ((1, 1, 2_000, 1_600), (2, 1, 2_000, 1_600)), ((1, 1, 6_400, 2_628_800), (2, 2, 12_800, 4_185_600)))
 
 
 def paper_lines(script, entries, printed):
@@ -558,6 +562,64 @@ def long_columns_by_lot(script, lot):
         finish(script, lot)
 
 
+# ---- (j) Lists with refused entries --------------------------------------
+
+LISTED = 5  # entries of a short list
+
+
+def short_lists(script, lot):
+    """The first refused entry of each number at each place, then others or none; asked by list after every entry."""
+    for number, place, others in product((3, 4, 5, 6), range(1, LISTED + 1), (0, 2)):
+        script.open(lot.between(1, 12))
+        for at in range(1, LISTED + 1):
+            last = script.last_floor()
+            entry = some_line(lot, last + lot.between(0, 4))
+            if at == place:
+                entry = spoiled(lot, entry, lot.one_of([parts for parts in FAULTS if parts[0] == number - 3]), last)
+            elif at > place and lot.between(1, 3) <= others:
+                entry = spoiled(lot, entry, lot.one_of(FAULTS), last)
+            script.enter(*entry)
+            passed = script.list(script.last_floor())
+            right = (number, place) if at >= place else (0, 0)
+            require((passed.first, passed.place) == right, f"{passed}, not {right}")
+        script.list(script.last_floor(), lot.between(1, 3))
+
+
+def long_lists(script, lot):
+    """Lists of 300 entries: all refused, 44 past a full column, and the first one refused just before it is full."""
+    for good, parts, passed in (
+        (0, (0, 3), Passed(300, 3, 1)),
+        (0, (3,), Passed(300, 6, 1)),
+        (256, (1, 2), Passed(44, 2, 257)),
+        (255, (2,), Passed(45, 5, 256)),
+    ):
+        script.open(lot.between(1, 12))
+        for entry in rising_lines(lot, good, 50):
+            script.enter(*entry)
+        script.list(script.last_floor())
+        for at in range(good + 1, 301):
+            script.enter(*spoiled(lot, some_line(lot, script.last_floor()), parts, script.last_floor()))
+            if at in (256, 257, 258, 300):
+                script.list(script.last_floor(), at % 4)
+        found = script.list(script.last_floor())
+        require(found == passed, f"{found}, not {passed}")
+
+
+def full_lists(script, lot):
+    """A list whose first refused entry is no good line too many, though one comes later: at place 1, 2, 100 and 256."""
+    for place, number in ((1, 4), (2, 6), (100, 3), (256, 5)):
+        script.open(lot.between(1, 12))
+        lines = rising_lines(lot, 260, 20)
+        for at, entry in enumerate(lines, start=1):
+            if at == place:
+                entry = spoiled(lot, entry, (number - 3,), script.last_floor())
+            script.enter(*entry)
+            if at in (place, 257, 258):
+                script.list(script.last_floor())
+        found = script.list(script.last_floor())
+        require(found == Passed(4, number, place), f"{found}")
+
+
 # ---- The lines -----------------------------------------------------------
 
 MAKERS = (
@@ -579,6 +641,9 @@ MAKERS = (
     largest_columns,
     columns_by_lot,
     long_columns_by_lot,
+    short_lists,
+    long_lists,
+    full_lists,
 )
 
 

@@ -5,6 +5,7 @@ from functools import lru_cache
 from itertools import product
 
 from reckoning.lists import Listed, listed
+from reckoning.paper import INTERIOR, SHEET
 from reckoning.trial_column import (
     AREA_HABITS,
     CLASS_HABITS,
@@ -12,12 +13,10 @@ from reckoning.trial_column import (
     EDGES,
     FAULTS,
     FLOOR_COLUMNS,
-    INTERIOR,
     LOAD_HABITS,
     MIXED_COLUMNS,
     PLAIN,
     REFUSED_CODES,
-    SHEET,
     STEPS,
     TRIED,
     edge_entries,

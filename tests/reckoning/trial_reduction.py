@@ -2,6 +2,7 @@
 
 from itertools import product
 
+from reckoning.paper import PAPER_ROWS
 from reckoning.reduction import factor, is_least, reduced_load
 
 GREATEST = 2**64 - 1  # the greatest number a case may hold
@@ -61,23 +62,9 @@ def code_cases():
 
 # ---- (b) The paper's figures ---------------------------------------------
 
-# 'Figures to check against': load, class, n, X (None is 'any') and R.
-PAPER_FIGURES = (
-    (2_000, 1, 1, 3_699, 2_000),
-    (2_000, 1, 1, 3_700, 2_000),
-    (2_000, 1, 1, 3_720, 1_999),
-    (2_000, 1, 1, 6_400, 1_643),
-    (5_000, 1, 2, 10_000, 3_535),
-    (2_000, 1, 1, 33_415, 1_001),
-    (2_000, 1, 1, 33_416, 1_000),
-    (2_000, 1, 2, 92_821, 801),
-    (2_000, 1, 2, 92_822, 800),
-    (2_001, 1, 1, 40_000, 1_001),
-    (5_001, 1, 1, None, 5_001),
-    (5_001, 1, 2, None, 4_001),
-    (2_500, 2, 1, None, 2_500),
-    (2_500, 2, 2, None, 2_000),
-    (4_000, 3, 9, None, 4_000),
+# 'Figures to check against' but for the uncapped one: load, class, n, X (None is 'any') and R.
+PAPER_FIGURES = tuple(
+    (row.load, row.cls, row.floors, row.influence, row.r) for row in PAPER_ROWS if not row.is_uncapped
 )
 ANY_INFLUENCE = (0, 1, 3_699, 3_700, 6_400, 33_416, 92_821, 92_822, 2**32, GREATEST)
 

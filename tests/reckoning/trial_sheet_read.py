@@ -6,11 +6,11 @@ from pathlib import Path
 
 from reckoning.column import Line, ask
 from reckoning.combination import LIMIT
+from reckoning.paper import INTERIOR
 from reckoning.sheet import live_effect, read, seven_effects, write
 from reckoning.trial_column import (
     AREA_HABITS,
     CLASS_HABITS,
-    INTERIOR,
     LOAD_HABITS,
     MIXED_COLUMNS,
     STEPS,

@@ -1,21 +1,17 @@
 -- The lines of a reached column are accepted in turn, each with the lines before it held.
 -- Assumes nothing.
-use mathlib.Core.Path.{_≡_, subst⁻¹}
-use mathlib.Core.List.{List, [], _∷_, _++_}
+use mathlib.Core.Path.{subst⁻¹}
+use mathlib.Core.List.{List, []}
 use Rattle.column.specs.declared.Line.{Line}
 use Rattle.column.specs.declared.Member.{Member}
 use Rattle.column.specs.declared.Column.{Column}
-use Rattle.column.specs.Accepted.{entryNumber, accepted}
+use Rattle.column.specs.Accepted.{accepted}
 use Rattle.column.specs.Column.{linesOf, columnOf, Reached}
+use Rattle.column.specs.InTurn.{Holdable, AcceptedInTurn, none, more}
 use Rattle.column.proofs.Columns.{column-lines}
-use Rattle.column.proofs.Reach.{Holdable, holdable-none, holdable-more, accepted-all, accepted-holdable, reached-column}
+use Rattle.column.proofs.Reach.{holdable-none, holdable-more, accepted-all, accepted-holdable, reached-column}
 
--- lines that are accepted in turn: none, or such lines and one more that is accepted after them
-pub data AcceptedInTurn (m : Member) : List Line → Type 0 where
-  none : AcceptedInTurn m []
-  more : (ls : List Line) (l : Line) → AcceptedInTurn m ls → entryNumber m ls l ≡ 0 → AcceptedInTurn m (ls ++ (l ∷ []))
-
--- the lines of a reached column are such lines
+-- the lines of a reached column are accepted in turn
 pub reached-in-turn : {c : Column} → Reached c → AcceptedInTurn (c .member) (linesOf c)
 unfolding columnOf
 reached-in-turn r =

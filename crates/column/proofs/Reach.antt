@@ -14,9 +14,11 @@ use Rattle.member.proofs.Tests.{limits}
 use Rattle.column.specs.declared.Line.{Line}
 use Rattle.column.specs.declared.Member.{Member}
 use Rattle.column.specs.declared.Column.{Column}
+use Rattle.column.specs.declared.Outcome.{Outcome}
 use Rattle.column.specs.Accepted.{lastFloor, firstCondition, entryNumber, joined, acceptedFrom, accepted}
 use Rattle.column.specs.Column.{linesOf, columnOf, unopened, openedOf, enteredOf, after, Reached}
 use Rattle.column.specs.Sound.{InLimits, Sound}
+use Rattle.column.specs.InTurn.{Holdable}
 use Rattle.lists.proofs.Lists.{all-more}
 use Rattle.lists.proofs.Tests.{cases}
 use Rattle.column.proofs.Columns.{column-lines, column-size}
@@ -60,11 +62,6 @@ not-above m count last l h =
     let floor = passed (not (between 1 64 (l .floor)) || ltb (l .floor) last) 3 _ (omega arith) (full .1) in
     ltb-false (l .floor) last (second-not (not (between 1 64 (l .floor))) (ltb (l .floor) last) (floor .0))
 
--- lines that a column may hold
-pub record Holdable (ls : List Line) : Type 0 where
-  pub few : length ls ≤ 256
-  pub lines : All InLimits ls
-
 -- what stays true of some lines when one more joins them that is accepted after them
 module _ (m : Member) (P : List Line → Type 0) (step : (ls : List Line) (l : Line) → P ls → entryNumber m ls l ≡ 0 → P (ls ++ (l ∷ []))) where
   joined-all : (ls : List Line) (l : Line) → P ls → P (joined m ls l)
@@ -103,18 +100,25 @@ module _ (c : Column) (l : Line) where
   unfolding enteredOf
   entered-refused n h e = rw (e, ne-eqb n 0 (λ q. omega arith))
 
--- entering a line on the column of some lines gives the column of the lines that are then accepted
-entered-column : (m : Member) (ls : List Line) (l : Line) → Holdable ls → enteredOf (columnOf m ls) l .column ≡ columnOf m (joined m ls l)
+-- entering a line on the column of some lines gives its number, and the column of the lines that are then accepted
+pub entered-column : (m : Member) (ls : List Line) (l : Line) → Holdable ls
+    → enteredOf (columnOf m ls) l ≡ record { number = entryNumber m ls l; column = columnOf m (joined m ls l) }
 unfolding enteredOf joined columnOf
 entered-column m ls l h =
+    let n = entryNumber m ls l in
+    let outcome : Column → Outcome = λ c. record { number = n; column = c } in
     rw (column-lines m ls (h .lines))
-    (cases (λ (b : Bool). cond b (columnOf m (ls ++ (l ∷ []))) (columnOf m ls) ≡ columnOf m (cond b (ls ++ (l ∷ [])) ls)) (eqb (entryNumber m ls l) 0) (λ e. refl) (λ e. refl))
+    (cases (λ (b : Bool). outcome (cond b (columnOf m (ls ++ (l ∷ []))) (columnOf m ls)) ≡ outcome (columnOf m (cond b (ls ++ (l ∷ [])) ls))) (eqb n 0) (λ e. refl) (λ e. refl))
+
+-- the lines that are then accepted may be held too
+pub joined-holdable : (m : Member) (ls : List Line) (l : Line) → Holdable ls → Holdable (joined m ls l)
+joined-holdable m ls l h = joined-all m Holdable (holdable-more m) ls l h
 
 after-column : (m : Member) (ls es : List Line) → Holdable ls → after (columnOf m ls) es ≡ columnOf m (acceptedFrom m ls es)
 unfolding after acceptedFrom
 after-column m ls [] h = refl
 after-column m ls (e ∷ es) h =
-    ap (λ (c : Column). after c es) (entered-column m ls e h) ∙ after-column m (joined m ls e) es (joined-all m Holdable (holdable-more m) ls e h)
+    ap (λ (o : Outcome). after (o .column) es) (entered-column m ls e h) ∙ after-column m (joined m ls e) es (joined-holdable m ls e h)
 
 module _ (m : Member) where
   opened-cases : (b : Bool) → between 1 12 (m .code) ≡ b → openedOf m .number ≡ 0

@@ -1,4 +1,4 @@
--- What the private functions ask of a column. No promise cites it.
+-- What the private functions ask of a column, and laws say of it. No function's promise cites it.
 -- Assumes nothing.
 use mathlib.Core.Path.{_≡_}
 use mathlib.Core.Bool.{true}

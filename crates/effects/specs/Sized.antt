@@ -1,4 +1,4 @@
--- What keeps every product and sum within 64 bits. No promise cites it.
+-- What keeps every product and sum within 64 bits: private functions ask it, and laws say it. No function's promise cites it.
 -- Assumes nothing.
 use mathlib.Core.Path.{_≡_}
 use mathlib.Core.List.{List}

@@ -4,6 +4,7 @@ use mathlib.Core.Path.{_≡_, sym, _∙_, ap, subst, subst⁻¹}
 use mathlib.Core.Bool.{true}
 use mathlib.Core.List.{List}
 use Prim.Native.Nat.{ℕ, _≤_}
+use native.Mathlib.Omega.{arith}
 use Rattle.refusal.specs.Said.{Said, refused, nothing}
 use Rattle.refusal.proofs.Said.{not-zero}
 use Rattle.lists.specs.Lists.{All}
@@ -62,7 +63,12 @@ module _ (m : Member) (entries : List Line) (f : ℕ) where
   unfolding askedAfter
   asked-refused n h e = rw (← e, not-zero h)
 
-  -- so an answer that says what the definition says promises both, that and the claim
-  pub promised : {t : Said Working} → t ≡ askedAfter m entries f → (t ≡ askedAfter m entries f) × Claim m (accepted m entries) f t
+  -- the claim of an answer that says what the definition says
+  pub claim-opened : {t : Said Working} → t ≡ askedAfter m entries f → Claim m (accepted m entries) f t
   unfolding Claim
-  promised e = (e, λ opened has. subst (Answered m (accepted m entries) f) (asked-opened opened ∙ sym e) (demand3 m entries f opened has))
+  claim-opened e opened has = subst (Answered m (accepted m entries) f) (asked-opened opened ∙ sym e) (demand3 m entries f opened has)
+
+-- where opening is refused nothing is claimed, of whatever lines
+pub claim-refused : (m : Member) (ls : List Line) (f n : ℕ) (t : Said Working) → 1 ≤ n → n ≡ openedOf m .number → Claim m ls f t
+unfolding Claim
+claim-refused m ls f n t h e opened has = absurd (omega (arith, e ∙ opened))

@@ -35,12 +35,13 @@ twentyP n ls = total (λ l. otherTwentieths (l .class) n * (l .load * l .area .0
 abbrev pub twentyE : ℕ → ℕ → ℕ → ℕ
 twentyE k T P20 = P20 + k * T
 
--- 01, Reduced load and figure: G = 20F − 20P − 5T, and G − 20A; each is looked at only where it is not negative
+-- 01, Reduced load and figure: G = 20F − 20P − 5T, and G − 20A. Where the paper's number is negative, these are 0: below, E ≤ F
+-- asks beside it that G is not negative, and of F < E + A the first case then holds, so that the second decides nothing
 abbrev pub G : ℕ → ℕ → ℕ → ℕ
 G T P20 F = 20 * F - (P20 + 5 * T)
 
-abbrev pub G−20A : ℕ → ℕ → ℕ → ℕ → ℕ
-G−20A T P20 A F = 20 * F - (P20 + 5 * T + 20 * A)
+abbrev pub GLess20A : ℕ → ℕ → ℕ → ℕ → ℕ
+GLess20A T P20 A F = 20 * F - (P20 + 5 * T + 20 * A)
 
 -- 01, Reduced load and figure: E ≤ F. In whole numbers 20E ≤ 20F; with the root at X, G is not negative and X × G² ≥ (914 × T)²
 unfoldable pub NotBelowExact : Share → ℕ → ℕ → ℕ → Type 0
@@ -52,7 +53,7 @@ NotBelowExact (Root X) T P20 F = (P20 + 5 * T ≤ 20 * F) × (sq (914 * T) ≤ X
 unfoldable pub BelowExactPlus : Share → ℕ → ℕ → ℕ → ℕ → Type 0
 BelowExactPlus (Twentieths k) T P20 A F = 20 * F < twentyE k T P20 + 20 * A
 BelowExactPlus (Root X) T P20 A F =
-    (20 * F < P20 + 5 * T + 20 * A) ⊎ (X .0 * sq (G−20A T P20 A F) < sq (914 * T))
+    (20 * F < P20 + 5 * T + 20 * A) ⊎ (X .0 * sq (GLess20A T P20 A F) < sq (914 * T))
 
 -- 01, Reduced load and figure: E ≤ F < E + A
 pub record Within (s : Share) (T P20 A F : ℕ) : Type 0 where
@@ -82,6 +83,6 @@ Claim m ls f answer = openedOf m .number ≡ 0 → hasFloor f ls ≡ true → An
 
 -- 01, Reduced load and figure: demand 3, for every member, every list of entries, refused ones among them, and every floor:
 -- the answer is what asking at the floor gives after the whole list, and the accepted lines follow from the member and the
--- entries alone. It is proved in proofs/Demand3.antt
+-- entries alone. It is proved in proofs/Claim.antt
 abbrev pub Demand3 : Type 0
 Demand3 = (m : Member) (entries : List Line) (f : ℕ) → Claim m (accepted m entries) f (asked (after (openedOf m .column) entries) f)

@@ -18,6 +18,10 @@ use Rattle.exports.specs.declared.columns.BungeroFigure.{BungeroFigure}
 use Rattle.exports.specs.declared.listed.BungeroListed.{BungeroListed}
 use Rattle.exports.specs.declared.reductions.BungeroReduced.{BungeroReduced}
 
+-- the number of the layout of the structs, one more whenever it changes; no part of the paper
+abbrev pub layoutNumber : ℕ
+layoutNumber = 1
+
 -- 01, Numbers by the place of checking: n, X and the figure with the number 0, or the number of the refusal with zeros
 unfoldable pub shownOf : Said Working → BungeroFigure
 shownOf (gives w) = record { number = 0; floors = w .floors; influence = w .influence .0; figure = w .figure }

@@ -2,6 +2,8 @@
 pub mod checks;
 pub mod columns;
 pub mod combinations;
+pub mod layouts;
 pub mod listed;
 pub mod reductions;
 pub mod reports;
+pub mod sheets;

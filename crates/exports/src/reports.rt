@@ -1,17 +1,16 @@
 // The report of a text for programs in C and Rust.
 ghost use mathlib.Core.Path.{_≡_};
-ghost use lib.ListN.{length, take, drop};
 ghost use Rattle.io.specs.Counts.{Counts};
-ghost use Rattle.report.specs.Report.{reportOf};
+ghost use Rattle.text.specs.Put.{fronted};
+ghost use Rattle.report.specs.Report.{putOf, reportedOf};
+use report::Reported;
 
-// Puts what takedown prints for a text at the start of a buffer, and gives how many bytes that is; the
-// rest of the buffer stays as it was.
+// Puts the take-down of a text at the start of a buffer; nothing where the sheet is refused.
 #[no_mangle]
-pub extern "C" fn bungero_report(text: &[u8], out: &mut [u8; 4096]) -> usize
-    ensures { λ r. ⌜ r ≡ length (reportOf (now (text .entry))) ⌝ }
-    ensures { λ r. ⌜ Counts r (now (out .exit)) ⌝ }
-    ensures { λ r. ⌜ take r (now (out .exit)) ≡ reportOf (now (text .entry)) ⌝ }
-    ensures { λ r. ⌜ drop r (now (out .exit)) ≡ drop r (now (out .entry)) ⌝ }
+pub extern "C" fn bungero_report(text: &[u8], out: &mut [u8; report::ROOM]) -> Reported
+    ensures { λ r. ⌜ r ≡ reportedOf (now (text .entry)) ⌝ }
+    ensures { λ _. ⌜ now (out .exit) ≡ fronted (putOf (now (text .entry))) (now (out .entry)) ⌝ }
+    ensures { λ r. ⌜ Counts (r .length) (now (out .exit)) ⌝ }
 {
     report::report(text, out)
 }

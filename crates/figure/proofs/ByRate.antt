@@ -11,7 +11,7 @@ use Rattle.lists.proofs.Tests.{cases, same-test}
 use Rattle.member.specs.Line.{isFormula}
 use Rattle.reduction.specs.declared.InfluenceArea.{InfluenceArea}
 use Rattle.reduction.specs.declared.share.Share.the-variants.{Twentieths}
-use Rattle.reduction.specs.Share.{clampedOf, otherTwentieths, shareOf}
+use Rattle.reduction.specs.Share.{clampedOf, heavyTwentieths, otherTwentieths, shareOf}
 use Rattle.reduction.specs.Reduced.{reduced}
 use Rattle.reduction.specs.Scale.{scaleOf}
 use Rattle.reduction.proofs.Shares.{other-within}
@@ -96,7 +96,7 @@ module _ (number : ℕ) (ok : InLimits (unpacked number)) where
       (λ e. lt-leb (keyOf number) 70536 (omega (arith, key-is, ok .class, ok .load, eqb-false (unpacked number .class) 1 e)))
 
   -- and below that of class 3 the share of class 2 stands
-  pub key-other : (n : ℕ) → keyOf number < 196608 → otherTwentieths (unpacked number .class) n ≡ otherTwentieths 2 n
+  pub key-other : (n : ℕ) → keyOf number < 196608 → otherTwentieths (unpacked number .class) n ≡ heavyTwentieths n
   unfolding otherTwentieths
   key-other n h = rw (ne-eqb (unpacked number .class) 3 (λ e. omega (arith, key-is, ok .load)))
 

@@ -3,7 +3,9 @@
 use mathlib.Core.Path.{_≡_, refl, sym, _∙_, ap}
 use mathlib.Core.Bool.{Bool, true, false, cond, _||_, or-true, or-self-left, false≢true}
 use mathlib.Core.List.{List, [], _∷_, _++_}
-use Prim.Native.Nat.{ℕ, _+_, _≤_, _<_}
+use Prim.Native.Nat.{ℕ, zero, suc, _+_, _≤_, _<_}
+use native.Mathlib.Nat.{lt-of-not-le}
+use native.Mathlib.Decide.{decLe}
 use native.Mathlib.Omega.{arith}
 use lib.Dec.{leb, eqb}
 use borrow.Author.Tests.{leb-false, le-leb, lt-leb, eq-eqb, ne-eqb}
@@ -30,14 +32,17 @@ carried-front f none none = refl
 carried-front f none (more {x} {xs} q b) = leave f x xs q ∙ carried-front f none b
 carried-front f {ks = ks} (more {x} {xs} q a) b = carry f x (xs ++ ks) q ∙ ap (λ (l : List Line). x ∷ l) (carried-front f a b)
 
--- a line that has the floor is carried there
-pub has-carried : (f : ℕ) (ls : List Line) → hasFloor f (carried f ls) ≡ hasFloor f ls
+-- a line that has the floor is carried there, and further down
+has-down : (f k : ℕ) → f ≤ k → (ls : List Line) → hasFloor f (carried k ls) ≡ hasFloor f ls
 unfolding carried hasFloor keep some
-has-carried f [] = refl
-has-carried f (l ∷ ls) =
-    cases (λ (b : Bool). hasFloor f (cond b (l ∷ carried f ls) (carried f ls)) ≡ (eqb (l .floor) f || hasFloor f ls)) (leb (l .floor) f)
-    (λ e. ap (λ (b : Bool). eqb (l .floor) f || b) (has-carried f ls))
-    (λ e. rw (ne-eqb (l .floor) f (λ w. omega (arith, leb-false (l .floor) f e))) (has-carried f ls))
+has-down f k h [] = refl
+has-down f k h (l ∷ ls) =
+    cases (λ (b : Bool). hasFloor f (cond b (l ∷ carried k ls) (carried k ls)) ≡ (eqb (l .floor) f || hasFloor f ls)) (leb (l .floor) k)
+    (λ e. ap (λ (b : Bool). eqb (l .floor) f || b) (has-down f k h ls))
+    (λ e. rw (ne-eqb (l .floor) f (λ w. omega (arith, leb-false (l .floor) k e))) (has-down f k h ls))
+
+pub has-carried : (f : ℕ) (ls : List Line) → hasFloor f (carried f ls) ≡ hasFloor f ls
+has-carried f = has-down f f (omega arith)
 
 -- where a line has the floor there is a line
 pub has-some : (P : List Line → Type 0) (f : ℕ) (ls : List Line) → hasFloor f ls ≡ true → ((l : Line) (ks : List Line) → P (l ∷ ks)) → P ls
@@ -90,6 +95,52 @@ pub floors-twice : (ls : List Line) (k l : Line) → l .floor ≡ k .floor → f
 unfolding floorsOf hasFloor some
 floors-twice [] k l e = one-floor (k .floor) k refl (more {x = l} e none)
 floors-twice (j ∷ ls) k l e = rw (has-twice (j .floor) ls k l e, floors-twice ls k l e)
+
+-- one floor further down is at most one floor more: a line is carried above it, is at it, or is below it
+one-or-none : (b : Bool) → (_≡_ {A = ℕ} (cond b 0 1 + cond b 1 0) 1) × (cond b 1 0 ≤ 1)
+one-or-none true = (refl, omega arith)
+one-or-none false = (refl, omega arith)
+
+abbrev Next : ℕ → List Line → Type 0
+Next k ls = floorsOf (carried (suc k) ls) ≤ floorsOf (carried k ls) + cond (hasFloor (suc k) ls) 1 0
+
+next-above : (k : ℕ) (l : Line) (ls : List Line) → l .floor ≤ k → Next k ls → Next k (l ∷ ls)
+unfolding floorsOf hasFloor some
+next-above k l ls p h =
+    rw (carry (suc k) l ls (omega arith), carry k l ls p, has-down (l .floor) (suc k) (omega arith) ls, has-down (l .floor) k p ls, ne-eqb (l .floor) (suc k) (λ e. omega arith))
+    (omega (arith, h))
+
+next-at : (k : ℕ) (l : Line) (ls : List Line) → l .floor ≡ suc k → Next k ls → Next k (l ∷ ls)
+unfolding floorsOf hasFloor some
+next-at k l ls e h =
+    let same : _≡_ {A = ℕ} (cond (hasFloor (l .floor) ls) 0 1) (cond (hasFloor (suc k) ls) 0 1) = ap (λ (f : ℕ). cond {A = ℕ} (hasFloor f ls) 0 1) e in
+    rw (carry (suc k) l ls (omega arith), leave k l ls (omega arith), has-down (l .floor) (suc k) (omega arith) ls, eq-eqb (l .floor) (suc k) e)
+    (omega (arith, h, same, one-or-none (hasFloor (suc k) ls) .0))
+
+next-below : (k : ℕ) (l : Line) (ls : List Line) → suc k < l .floor → Next k ls → Next k (l ∷ ls)
+unfolding hasFloor some
+next-below k l ls p h =
+    rw (leave (suc k) l ls p, leave k l ls (omega arith), ne-eqb (l .floor) (suc k) (λ e. omega arith)) h
+
+floors-next : (k : ℕ) (ls : List Line) → Next k ls
+unfolding carried floorsOf keep
+floors-next k [] = omega arith
+floors-next k (l ∷ ls) =
+    let h = floors-next k ls in
+    elim (decLe (l .floor) k) [
+      | yes p ↦ next-above k l ls p h
+      | no n ↦
+          elim (decLe (l .floor) (suc k)) [
+            | yes p ↦ next-at k l ls (omega (arith, lt-of-not-le n)) h
+            | no m ↦ next-below k l ls (lt-of-not-le m) h
+          ]
+    ]
+
+-- so lines down to floor k, of which none is above floor 1, have at most k floors
+pub floors-down : (k : ℕ) {ls : List Line} → All (Below 0) ls → floorsOf (carried k ls) ≤ k
+unfolding floorsOf
+floors-down zero a = rw (carried-front 0 none a) (omega arith)
+floors-down (suc k) {ls} a = omega (arith, floors-next k ls, floors-down k a, one-or-none (hasFloor (suc k) ls) .1)
 
 -- the formula lines' area is the sum of what each line adds to it
 pub area-total : (ls : List Line) → areaOf (formulaLines ls) ≡ total formulaArea ls

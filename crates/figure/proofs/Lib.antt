@@ -1,4 +1,5 @@
 -- Laws of what holds at a floor.
+pub mod AskedExamples
 pub mod Carried
 pub mod Order
 pub mod HeldLines

@@ -1,14 +1,14 @@
 -- How large what holds at a floor can be, for a column that opening and entering gave, and how large the figure of one line.
 -- Assumes nothing.
-use mathlib.Core.Path.{_≡_, refl, subst}
+use mathlib.Core.Path.{_≡_, refl, sym, _∙_, ap, subst}
 use mathlib.Core.Bool.{Bool, true, cond}
-use mathlib.Core.List.{List, [], _∷_}
-use Prim.Native.Nat.{ℕ, suc, _+_, _≤_}
+use mathlib.Core.List.{List, append-nil}
+use Prim.Native.Nat.{ℕ, _≤_}
 use native.Mathlib.Nat.{le-trans, mul-le-mul}
 use native.Mathlib.Omega.{arith}
 use lib.ListN.{length}
 use Rattle.refusal.specs.Said.{gives, refused, nothing}
-use Rattle.lists.specs.Lists.{All}
+use Rattle.lists.specs.Lists.{All, none}
 use Rattle.reduction.specs.declared.InfluenceArea.{InfluenceArea}
 use Rattle.member.proofs.Member.{factor-most}
 use Rattle.reduction.proofs.Shares.{share-at-most-one}
@@ -21,31 +21,25 @@ use Rattle.figure.specs.Carried.{isFormulaLine, formulaLines, carried, h
 use Rattle.figure.specs.Figure.{lineFigure, figureOf}
 use Rattle.column.specs.Column.{linesOf, Reached}
 use Rattle.figure.specs.Asked.{workingOf, askedOf, asked}
+use Rattle.figure.specs.Most.{Most}
 use Rattle.column.specs.Sound.{InLimits, Sound}
 use Rattle.lists.proofs.Tests.{cases}
-use Rattle.lists.proofs.Lists.{keep-length, all-keep, total-most}
+use Rattle.lists.proofs.Lists.{keep-length, all-keep, all-so, total-most}
 use Rattle.column.proofs.Lines.{lines-length}
 use Rattle.column.proofs.Reach.{sound, sound-lines}
+use Rattle.figure.proofs.Carried.{carried-front, floors-down}
 
--- there are no more floors than lines
-floors-most : (ls : List Line) → floorsOf ls ≤ length ls
-unfolding floorsOf
-floors-most [] = omega arith
-floors-most (l ∷ ls) =
-    let h = floors-most ls in
-    cases (λ (b : Bool). cond b 0 1 + floorsOf ls ≤ suc (length ls)) (hasFloor (l .floor) ls) (λ e. omega arith) (λ e. omega arith)
+-- lines within their limits have at most 64 floors
+floors-most : {ls : List Line} → All InLimits ls → floorsOf ls ≤ 64
+floors-most {ls} a =
+    let all : carried 64 ls ≡ ls = ap (carried 64) (sym (append-nil ls)) ∙ carried-front 64 (all-so (λ l h. h .floor .1) a) none in
+    subst (λ (ks : List Line). floorsOf ks ≤ 64) all (floors-down 64 (all-so (λ l h. h .floor .0) a))
 
 -- R × area is at most the largest load on the largest area
 pub line-most : (n : ℕ) (x : InfluenceArea) (l : Line) → InLimits l → lineFigure n x l ≤ 10000000000
 unfolding lineFigure
 line-most n x l h =
     mul-le-mul (le-trans (reduced-at-most-load _ (l .load) (share-at-most-one (l .load) (l .class) n x)) (h .load .1)) (h .area .1)
-
--- what holds at a floor, as large as it can be: 256 floors, 4 times the largest area of 256 lines, and the largest figure of each
-pub record Most (w : Working) : Type 0 where
-  pub floors : w .floors ≤ 256
-  pub influence : w .influence .0 ≤ 204800000
-  pub figure : w .figure ≤ 2560000000000
 
 module _ (c : Column) (ok : Sound c) (f : ℕ) where
   abbrev ls : List Line
@@ -67,7 +61,7 @@ module _ (c : Column) (ok : Sound c) (f : ℕ) where
   unfolding workingOf influenceOf influenceFrom figureOf
   working-most =
       record {
-        floors = le-trans (floors-most ls) few;
+        floors = floors-most limits;
         influence = mul-le-mul (factor-most (c .member .code)) area;
         figure = le-trans (total-most _ 10000000000 (line-most _ _) limits) (omega (arith, few));
       }

@@ -2,8 +2,10 @@
 pub mod Carried
 pub mod Figure
 pub mod Asked
+pub mod Examples
 pub mod Lowest
 pub mod Workings
+pub mod Most
 pub mod Totals
 pub mod Rates
 pub mod Descent

@@ -5,7 +5,7 @@ use mathlib.Core.Bool.{cond}
 use Prim.Native.Nat.{ℕ, _+_, _*_}
 use lib.Dec.{eqb}
 use Rattle.reduction.specs.declared.InfluenceArea.{InfluenceArea}
-use Rattle.reduction.specs.Share.{clampedOf, otherTwentieths, shareOf}
+use Rattle.reduction.specs.Share.{clampedOf, heavyTwentieths, shareOf}
 use Rattle.reduction.specs.Reduced.{reduced}
 use Rattle.reduction.specs.Scale.{scaleOf}
 use Rattle.column.specs.declared.Line.{Line}
@@ -33,7 +33,7 @@ sharesAt n x =
       influence = x;
       clamped = clampedOf n x;
       formula = rateOf (clampedOf n x) (scaleOf n x);
-      other = twentiethsRate (otherTwentieths 2 n) .times;
+      other = twentiethsRate (heavyTwentieths n) .times;
     }
 
 -- shares are those of their n and X

@@ -1,4 +1,4 @@
--- What the private functions count and sum over the lines at a column's places. No promise cites it.
+-- What private functions count and sum over the lines at a column's places, and laws say. No function's promise cites it.
 -- Assumes nothing.
 use mathlib.Core.Path.{_≡_}
 use mathlib.Core.Bool.{cond}

@@ -17,7 +17,6 @@ use crate::rates;
 use crate::sums;
 use column::Member;
 use column::Places;
-use member::TributaryArea;
 use refusal::Refusal;
 
 // How many lines are carried at a floor; 0 where no line has that floor.
@@ -75,12 +74,13 @@ pub fn asked_at(held: &Places, member: Member, count: u16, floor: u64) -> Asked
         return Asked::Refused(refusal::number(Refusal::NoLineAtFloor));
     }
     let floors = floors_before(held, end);
-    let area = TributaryArea(sums::area_between(held, 0, end));
+    let area = sums::area_between(held, 0, end);
     let shares = rates::shares_at(member, floors, area);
     let x = shares.influence;
+    let figure = sums::figure_between(held, 0, end, shares);
     Asked::Gives(Working {
         floors: floors,
         influence: x,
-        figure: sums::figure_between(held, 0, end, shares),
+        figure: figure,
     })
 }

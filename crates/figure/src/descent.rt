@@ -66,7 +66,7 @@ fn next_floor(held: &Places, member: Member, count: usize, above: Descent) -> De
     let first = above.lines;
     let floor = lines::line_at(held, first).floor;
     let end = floor_end(held, count, first + 1, floor);
-    let sum = above.area.0 + sums::area_between(held, first, end);
+    let sum = above.area.0 + sums::area_between(held, first, end).0;
     let area = TributaryArea(sum);
     let here = rates::shares_at(member, above.shares.floors + 1, area);
     Descent {

@@ -109,7 +109,7 @@ pub fn shares_at(member: Member, floors: u64, area: TributaryArea) -> Shares
         influence: x,
         clamped: clamped,
         formula: formula,
-        other: reduction::other_twentieths(2, floors) * TWENTIETH,
+        other: reduction::heavy_twentieths(floors) * TWENTIETH,
     }
 }
 

@@ -8,30 +8,31 @@ ghost use Rattle.figure.specs.Rates.{Shared, figureBy};
 use crate::rates;
 use crate::rates::Shares;
 use column::Places;
+use member::TributaryArea;
 
 // The area of a formula line, and 0 of any other.
-fn formula_area(number: u64) -> u64
+fn formula_area(number: u64) -> TributaryArea
     requires { ⌜ InLimits (unpacked number) ⌝ }
-    ensures { λ r. ⌜ (r ≡ formulaArea (unpacked number)) × (r ≤ 200000) ⌝ }
+    ensures { λ r. ⌜ (r .0 ≡ formulaArea (unpacked number)) × (r .0 ≤ 200000) ⌝ }
 {
     if rates::is_formula(number) {
-        return column::line_of(number).area.0;
+        return column::line_of(number).area;
     }
-    0
+    TributaryArea(0)
 }
 
 // The formula lines' area, from a place to before another.
-pub fn area_between(held: &Places, first: usize, end: usize) -> u64
+pub fn area_between(held: &Places, first: usize, end: usize) -> TributaryArea
     requires { ⌜ Held (now held) end × (first ≤ end) ⌝ }
-    ensures { λ r. ⌜ SumOf formulaArea 200000 (now (held .entry)) first end r ⌝ }
+    ensures { λ r. ⌜ SumOf formulaArea 200000 (now (held .entry)) first end (r .0) ⌝ }
 {
     let mut area: u64 = 0;
     let mut i = first;
     while i < end {
-        area += formula_area(held[i]);
+        area += formula_area(held[i]).0;
         i += 1;
     }
-    area
+    TributaryArea(area)
 }
 
 // The sum of R × area, from a place to before another.

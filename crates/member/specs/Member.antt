@@ -2,7 +2,7 @@
 -- Assumes nothing.
 use mathlib.Core.Bool.{cond}
 use mathlib.Core.List.{List, [], _∷_}
-use Prim.Native.Nat.{ℕ, _-_}
+use Prim.Native.Nat.{ℕ}
 use lib.ListN.{getD}
 use Rattle.refusal.specs.Said.{Said, gives, refused, nothing}
 use Rattle.member.specs.Between.{between}
@@ -24,9 +24,9 @@ table4·2 =
     ∷ 1  -- 12 any other
     ∷ []
 
--- 01, Member, line, floor: K of a code 1 to 12, by Table 4.2
+-- 01, Member, line, floor: K of a code 1 to 12, by Table 4.2; 0 of any other number, which is no code
 unfoldable pub tableFactor : ℕ → ℕ
-tableFactor code = getD table4·2 (code - 1) 0
+tableFactor code = getD (0 ∷ table4·2) code 0
 
 -- 01, Member, line, floor: K; the refusal 1 where the code is not 1 to 12
 unfoldable pub factorOf : ℕ → Said ℕ

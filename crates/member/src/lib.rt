@@ -1,6 +1,6 @@
 // A member and its lines: the factor of a member, limits, and which lines are reduced by the formula.
 ghost use mathlib.Core.Path.{_≡_};
-ghost use Rattle.refusal.specs.Said.{said};
+ghost use Rattle.refusal.specs.Said.{saidAnswer};
 ghost use Rattle.member.specs.Member.{factorOf};
 ghost use Rattle.member.specs.Line.{isFormula};
 use refusal::Answer;
@@ -17,7 +17,7 @@ const FACTORS: [u64; 12] = [4, 4, 3, 2, 2, 2, 1, 1, 1, 1, 1, 1];
 
 // The factor K of a member's code; refused where there is no such code.
 pub fn factor(code: u64) -> Answer
-    ensures { λ r. ⌜ said r ≡ factorOf code ⌝ }
+    ensures { λ r. ⌜ saidAnswer r ≡ factorOf code ⌝ }
 {
     if !limits::is_between(1, 12, code) {
         return Answer::Refused(Refusal::UnknownCode);

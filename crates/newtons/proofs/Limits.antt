@@ -7,10 +7,8 @@ use lib.Dec.{T, leb, ltb, leb→le}
 use lib.IntN.{ℤ, natAbs}
 use lib.Ieee.{Float}
 use borrow.Author.Tests.{le-leb, lt-leb, lt-ltb, le-ltb, ltb-false}
-use Rattle.refusal.specs.Said.{Told, gives, refused}
-use Rattle.newtons.specs.declared.Held.{Held}
-use Rattle.newtons.specs.declared.Held.the-variants as H
-use Rattle.newtons.specs.Effect.{Value, whole, notWhole, signed, valueOf, heldOf, limit, within, limited, effectOf}
+use Rattle.refusal.specs.Said.{Told, Said, gives, refused, nothing}
+use Rattle.newtons.specs.Effect.{Value, whole, notWhole, signed, valueOf, HeldWhole, itself, large, heldOf, limit, within, limited, effectOf}
 use Rattle.newtons.proofs.Word.{size-neg}
 use Rattle.newtons.proofs.Values.{Is}
 
@@ -21,20 +19,20 @@ signed-size false n = refl
 
 -- ---- from the value to what is handed on
 
-pub held-none : {v : Value} → v ≡ notWhole → heldOf v ≡ H.NotWhole
+pub held-none : {v : Value} → v ≡ notWhole → heldOf v ≡ refused 8 nothing
 unfolding heldOf
 held-none h = ap heldOf h
 
-pub held-large : {x : Float} {s : Bool} {n : ℕ} → Is x s n → 2 ^ 53 ≤ n → heldOf (valueOf x) ≡ H.Large
+pub held-large : {x : Float} {s : Bool} {n : ℕ} → Is x s n → 2 ^ 53 ≤ n → heldOf (valueOf x) ≡ gives large
 unfolding heldOf
 held-large {x} {s} {n} h l = ap heldOf (h .is) ∙ simp (signed-size s n, le-ltb n (2 ^ 53) l)
 
-pub held-whole : {v : Value} {z : ℤ} → v ≡ whole z → natAbs z < 2 ^ 53 → heldOf v ≡ H.Whole z
+pub held-whole : {v : Value} {z : ℤ} → v ≡ whole z → natAbs z < 2 ^ 53 → heldOf v ≡ gives (itself z)
 unfolding heldOf
 held-whole {v} {z} h l = ap heldOf h ∙ simp (lt-ltb (natAbs z) (2 ^ 53) l)
 
 -- of sign s and size n, where the sign is told by a test
-pub held-signed : {x : Float} {s : Bool} {n : ℕ} → Is x s n → n < 2 ^ 53 → (b : Bool) → s ≡ b → heldOf (valueOf x) ≡ H.Whole (signed b n)
+pub held-signed : {x : Float} {s : Bool} {n : ℕ} → Is x s n → n < 2 ^ 53 → (b : Bool) → s ≡ b → heldOf (valueOf x) ≡ gives (itself (signed b n))
 held-signed {x} {s} {n} h l b e =
     held-whole (h .is ∙ ap (λ (t : Bool). whole (signed t n)) e) (subst (λ (k : ℕ). k < 2 ^ 53) (sym (signed-size b n)) l)
 
@@ -58,16 +56,16 @@ effect-within x z h = go (valueOf x) h
     go notWhole e = let q : _≡_ {A = ℕ} 0 1 = cc in omega arith
 
 -- 8 and 9 told of what is handed on: a large number is beyond the limit
-unfoldable pub limitedHeld : Float → Held → Told Float ℤ
-limitedHeld x (H.Whole z) = cond (within z) (gives z) (refused 9 x)
-limitedHeld x H.Large = refused 9 x
-limitedHeld x H.NotWhole = refused 8 x
+unfoldable pub limitedHeld : Float → Said HeldWhole → Told Float ℤ
+limitedHeld x (gives (itself z)) = cond (within z) (gives z) (refused 9 x)
+limitedHeld x (gives large) = refused 9 x
+limitedHeld x (refused n _) = refused n x
 
 pub effect-held : (x : Float) → effectOf x ≡ limitedHeld x (heldOf (valueOf x))
 unfolding effectOf limited limitedHeld heldOf
 effect-held x = go (valueOf x)
   where
-    test : (z : ℤ) (t : Bool) → ltb (natAbs z) (2 ^ 53) ≡ t → cond (within z) (gives z) (refused 9 x) ≡ limitedHeld x (cond t (H.Whole z) H.Large)
+    test : (z : ℤ) (t : Bool) → ltb (natAbs z) (2 ^ 53) ≡ t → cond (within z) (gives z) (refused 9 x) ≡ limitedHeld x (gives (cond t (itself z) large))
     test z true e = refl
     test z false e = let h = ltb-false (natAbs z) (2 ^ 53) e in rw (lt-leb (natAbs z) limit (omega arith))
 

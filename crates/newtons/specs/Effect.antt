@@ -13,7 +13,7 @@ use Rattle.newtons.specs.declared.Held.{Held}
 use Rattle.newtons.specs.declared.Held.the-variants as H
 use Rattle.newtons.specs.declared.Effect.{Effect}
 use Rattle.newtons.specs.declared.Effect.the-variants.{Whole, NotWhole, Beyond}
-use Rattle.refusal.specs.Said.{Told, gives, refused}
+use Rattle.refusal.specs.Said.{Told, Said, gives, refused, nothing}
 
 -- 01, Numbers by the place of checking: the value of a double, a whole number or not
 pub data Value : Type 0 where
@@ -35,11 +35,22 @@ valueOf nan = notWhole
 valueOf (inf s) = notWhole
 valueOf (fin s m e) = fraction s (m * up e) (down e)
 
--- 01, Numbers by the place of checking: "not a whole number", told of the value alone. As 64 bits can hold it: a whole number
--- below 2^53 in size; that it is whole and not below, from where on every double is whole and few fit; or that it is not whole
-unfoldable pub heldOf : Value → Held
-heldOf (whole z) = cond (ltb (natAbs z) (2 ^ 53)) (H.Whole z) H.Large
-heldOf notWhole = H.NotWhole
+-- no part of the paper has it: a whole number as 64 bits can hold it, itself below 2^53 in size, and else that it is not below,
+-- from where on every double is whole and few fit
+pub data HeldWhole : Type 0 where
+  itself : ℤ → HeldWhole
+  large : HeldWhole
+
+-- 01, Numbers by the place of checking: 8, "not a whole number", told of the value alone
+unfoldable pub heldOf : Value → Said HeldWhole
+heldOf (whole z) = gives (cond (ltb (natAbs z) (2 ^ 53)) (itself z) large)
+heldOf notWhole = refused 8 nothing
+
+-- 01, Where each language form belongs: the number and the values of each case
+unfoldable pub saidHeld : Held → Said HeldWhole
+saidHeld (H.Whole z) = gives (itself z)
+saidHeld H.Large = gives large
+saidHeld H.NotWhole = refused (numberOf EffectNotWhole) nothing
 
 -- 01, Effects and the 25 combinations: what is held against "±1,000,000,000,000": how large a number is, whatever its sign
 abbrev pub magnitudeOf : ℤ → ℕ

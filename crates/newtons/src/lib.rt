@@ -1,6 +1,6 @@
 // A double as an effect: the whole number of newtons that it is, and whether that is within the limit.
 ghost use mathlib.Core.Path.{_≡_};
-ghost use Rattle.newtons.specs.Effect.{valueOf, heldOf, within, effectOf, saidEffect};
+ghost use Rattle.newtons.specs.Effect.{valueOf, heldOf, saidHeld, within, effectOf, saidEffect};
 
 pub mod signed;
 
@@ -31,7 +31,7 @@ pub fn is_within(newtons: i64) -> bool
 
 // The whole number that a double is, read off its bits: the sign, the exponent and the digits.
 pub fn value_of(x: f64) -> Held
-    ensures { λ r. ⌜ r ≡ heldOf (valueOf x) ⌝ }
+    ensures { λ r. ⌜ saidHeld r ≡ heldOf (valueOf x) ⌝ }
 {
     if x != x {
         return Held::NotWhole;

@@ -22,7 +22,8 @@ use Rattle.figure.specs.Asked.{workingOf, askedOf}
 use Rattle.error_bound.specs.Claim.{Claim}
 use Rattle.column.specs.Entering.{NoneRefused, none, more, Stops}
 use Rattle.column.proofs.Columns.{column-lines}
-use Rattle.column.proofs.Reach.{Holdable, holdable-none, holdable-more, entered-accepted, opened-column}
+use Rattle.column.specs.InTurn.{Holdable}
+use Rattle.column.proofs.Reach.{holdable-none, holdable-more, entered-accepted, opened-column}
 use Rattle.column.proofs.Entering.{every-list}
 use Rattle.error_bound.proofs.Claim.{claimed}
 use Rattle.records.specs.Listed.{atPlace, listedFrom, listedOf, Bounds}

@@ -13,7 +13,7 @@ use Rattle.column.specs.Accepted.{lastFloor, firstCondition, entryNumber}
 use Rattle.column.specs.Column.{openedOf}
 use Rattle.figure.specs.Asked.{workingOf, askedOf}
 use Rattle.column.specs.Line.{entriesOf}
-use Rattle.error_bound.specs.Examples.{heavyAbove, sampleSheet}
+use Rattle.figure.specs.Examples.{heavyAbove, sampleSheet}
 use Rattle.records.specs.Listed.{atPlace, listedFrom, listedOf}
 use Rattle.records.specs.Examples.{mistyped, examples, Says}
 

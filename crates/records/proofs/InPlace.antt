@@ -16,7 +16,8 @@ use Rattle.column.specs.Accepted.{entryNumber}
 use Rattle.column.specs.declared.Outcome.{Outcome}
 use Rattle.column.specs.Column.{noPlaces, columnOf, openedOf, enteredOf, Reached}
 use Rattle.column.proofs.Columns.{column-lines}
-use Rattle.column.proofs.Reach.{Holdable, holdable-none, holdable-more, entered-refused, opened-code, opened-column, opened-refused, reached-opened}
+use Rattle.column.specs.InTurn.{Holdable}
+use Rattle.column.proofs.Reach.{holdable-none, holdable-more, entered-refused, opened-code, opened-column, opened-refused, reached-opened}
 use Rattle.figure.specs.declared.Working.{Working}
 use Rattle.figure.specs.Asked.{asked, askedOf}
 use Rattle.records.specs.declared.entering.Entered.{Entered}

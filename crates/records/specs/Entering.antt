@@ -1,4 +1,4 @@
--- What entering a list in place keeps, and what the lines do to it. No promise cites it.
+-- What entering a list in place keeps, and what the lines do to it; laws say it too. No function's promise cites it.
 -- Assumes nothing.
 use mathlib.Core.Path.{_≡_}
 use mathlib.Core.Bool.{cond}

@@ -7,7 +7,8 @@ use Rattle.refusal.specs.Said.{Told, gives, refused}
 use Rattle.figure.specs.declared.Working.{Working}
 use Rattle.column.specs.Column.{memberOf}
 use Rattle.column.specs.Line.{entriesOf}
-use Rattle.error_bound.specs.Examples.{heavyAbove, sampleSheet}
+use Rattle.figure.specs.Asked.{workingFrom}
+use Rattle.figure.specs.Examples.{heavyAbove, sampleSheet}
 use Rattle.records.specs.Listed.{listedOf}
 
 -- a member's code, its lines, four numbers a line, a floor, and the answer
@@ -16,7 +17,7 @@ pub data Example : Type 0 where
 
 -- n, X and the figure
 abbrev pub working : ℕ → ℕ → ℕ → Told ℕ Working
-working n x figure = gives (record { floors = n; influence = record { 0 = x }; figure = figure })
+working n x figure = gives (workingFrom n x figure)
 
 -- the sample sheet's lines with a load beyond 50,000 in the second, and a class that is none in the third
 unfoldable pub mistyped : List ℕ

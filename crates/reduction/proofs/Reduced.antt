@@ -12,8 +12,8 @@ use Rattle.reduction.specs.declared.InfluenceArea.{InfluenceArea}
 use Rattle.reduction.specs.declared.share.Share.{Share}
 use Rattle.reduction.specs.declared.share.Share.the-variants.{Twentieths, Root}
 use Rattle.member.specs.Between.{between}
-use Rattle.reduction.specs.Share.{leastTwentieths, formulaShare, shareOf, AtMostOne}
-use Rattle.reduction.specs.Reduced.{reaches, reduced, Least, reducedOf}
+use Rattle.reduction.specs.Share.{leastTwentieths, shareOf, AtMostOne}
+use Rattle.reduction.specs.Reduced.{reaches, reduced, Least, Clamped, reducedOf}
 use Rattle.reduction.proofs.Squares.{sq-le}
 use Rattle.reduction.proofs.Least.{found, none}
 use Rattle.reduction.proofs.Root.{reaches-root, reaches-twentieths, not-at-least, not-at-most}
@@ -85,12 +85,12 @@ line-least load class n x =
 
 -- What the cases of the formula's share come to: r reaches the least of 1 and the greater of the least share and the root.
 module _ (n : ℕ) (x : InfluenceArea) (load r : ℕ) where
-  abbrev Clamped : Bool → Type 0
-  Clamped b = b ≡ (reaches (Twentieths 20) load r || reaches (Twentieths (leastTwentieths n)) load r && reaches (Root x) load r)
+  abbrev As : Bool → Type 0
+  As b = b ≡ (reaches (Twentieths 20) load r || reaches (Twentieths (leastTwentieths n)) load r && reaches (Root x) load r)
 
-  pub clamped : Clamped (reaches (formulaShare n x) load r)
+  pub clamped : Clamped n x load r
   clamped =
-      formula-cases (λ (s : Share). Clamped (reaches s load r)) n x
+      formula-cases (λ (s : Share). As (reaches s load r)) n x
       (λ c. capped _ (reaches (Twentieths (leastTwentieths n)) load r) _ (reaches-twentieths 20 x load r c))
       (λ _ h. held _ _ _ (twentieths-less _ 20 load r (omega (arith, least-within n))) (reaches-root _ x load r h))
       (λ c h. between _ _ _ (reaches-root 20 x load r (not-at-least 20 x c)) (reaches-twentieths _ x load r (not-at-most _ x h)))

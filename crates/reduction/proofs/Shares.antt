@@ -1,7 +1,7 @@
 -- The cases of a share, and that no share is above 1.
 -- Assumes nothing.
 use mathlib.Core.Path.{_≡_, refl}
-use mathlib.Core.Bool.{Bool, true, false, cond, _||_}
+use mathlib.Core.Bool.{Bool, true, false, cond}
 use Prim.Native.Nat.{ℕ, _≤_, _<_}
 use native.Mathlib.Nat.{le-refl}
 use native.Mathlib.Omega.{arith}
@@ -10,7 +10,7 @@ use borrow.Author.Tests.{le-leb, lt-leb}
 use Rattle.reduction.specs.declared.InfluenceArea.{InfluenceArea}
 use Rattle.reduction.specs.declared.share.Share.{Share}
 use Rattle.reduction.specs.declared.share.Share.the-variants.{Twentieths, Root}
-use Rattle.reduction.specs.Share.{oneFloor, rootAtLeast, rootAtMost, leastTwentieths, formulaShare, otherTwentieths, shareOf, AtMostOne}
+use Rattle.reduction.specs.Share.{oneFloor, rootAtLeast, rootAtMost, leastTwentieths, formulaShare, heavyTwentieths, otherTwentieths, shareOf, AtMostOne}
 use Rattle.member.specs.Line.{isFormula}
 use Rattle.reduction.proofs.Root.{not-at-least, cap-last}
 
@@ -67,9 +67,16 @@ pub least-within : (n : ℕ) → (8 ≤ leastTwentieths n) × (leastTwentieths n
 unfolding leastTwentieths
 least-within n = cond-within (oneFloor n) 8 10 (omega arith)
 
+pub heavy-within : (n : ℕ) → (16 ≤ heavyTwentieths n) × (heavyTwentieths n ≤ 20)
+heavy-within n = cond-within (oneFloor n) 16 20 (omega arith)
+
 pub other-within : (class n : ℕ) → (16 ≤ otherTwentieths class n) × (otherTwentieths class n ≤ 20)
 unfolding otherTwentieths
-other-within class n = cond-within (eqb class 3 || oneFloor n) 16 20 (omega arith)
+other-within class n = go (eqb class 3)
+  where
+    go : (b : Bool) → (16 ≤ cond b 20 (heavyTwentieths n)) × (cond b 20 (heavyTwentieths n) ≤ 20)
+    go true = (omega arith, omega arith)
+    go false = heavy-within n
 
 -- no share is above 1
 pub formula-at-most-one : (n : ℕ) (x : InfluenceArea) → AtMostOne (formulaShare n x)

@@ -1,5 +1,4 @@
--- The root part of the share in whole units, by which the reduced loads of most lines need no search. No part of a paper, and no
--- reduced load depends on it.
+-- The root part of the share in whole units, which spares most lines a search; no reduced load depends on it. No part of a paper.
 -- Assumes nothing.
 use Prim.Native.Nat.{ℕ, _+_, _*_, _^_}
 use lib.Dec.{ltb}

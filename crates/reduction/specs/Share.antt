@@ -1,7 +1,7 @@
 -- Paper 01, "Reduced load and figure": the share of a line. A share is so many twentieths, or 1/4 + 45.7/√X.
 -- Assumes nothing.
 use mathlib.Core.Path.{_≡_}
-use mathlib.Core.Bool.{Bool, true, cond, _||_}
+use mathlib.Core.Bool.{Bool, true, cond}
 use Prim.Native.Nat.{ℕ, _*_, _-_, _≤_}
 use lib.Dec.{leb, eqb}
 use Rattle.reduction.specs.declared.InfluenceArea.{InfluenceArea}
@@ -46,10 +46,14 @@ clampedShare (Root x) = 0
 unfoldable pub clampedOf : ℕ → InfluenceArea → ℕ
 clampedOf n x = clampedShare (formulaShare n x)
 
--- 01, Reduced load and figure: class 2, and class 1 above 5,000, have 1 where n is 1, else 4/5; class 3 has 1. A number that is
--- no class, which the papers leave free, has the share of class 2
+-- 01, Reduced load and figure: "Class 2, and class 1 above 5,000: share 1 where n is 1, else 4/5", in twentieths
+abbrev pub heavyTwentieths : ℕ → ℕ
+heavyTwentieths n = cond (oneFloor n) 20 16
+
+-- 01, Reduced load and figure: the share of a line that the formula is not for, in twentieths; class 3 has 1. It is asked for a
+-- class 1 to 3 alone: any other number is refused before
 unfoldable pub otherTwentieths : ℕ → ℕ → ℕ
-otherTwentieths class n = cond (eqb class 3 || oneFloor n) 20 16
+otherTwentieths class n = cond (eqb class 3) 20 (heavyTwentieths n)
 
 -- 01, Reduced load and figure: the share of a line of this load and class, at n floors and the influence area x
 unfoldable pub shareOf : ℕ → ℕ → ℕ → InfluenceArea → Share

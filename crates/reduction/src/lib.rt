@@ -2,10 +2,11 @@
 ghost use mathlib.Core.Path.{_≡_};
 ghost use mathlib.Core.Bool.{true};
 ghost use Prim.Native.Nat.{_≤_};
+ghost use Rattle.member.specs.Between.{between};
 ghost use Rattle.member.specs.Line.{isFormula};
-ghost use Rattle.refusal.specs.Said.{said};
+ghost use Rattle.refusal.specs.Said.{saidAnswer};
 ghost use Rattle.reduction.specs.declared.InfluenceArea.{InfluenceArea};
-ghost use Rattle.reduction.specs.Share.{otherTwentieths, clampedOf};
+ghost use Rattle.reduction.specs.Share.{clampedOf, heavyTwentieths, otherTwentieths};
 ghost use Rattle.reduction.specs.Reduced.{reducedOf};
 ghost use Rattle.reduction.specs.Estimate.{estimateOf};
 ghost use Rattle.reduction.specs.Scale.{scaleOf};
@@ -37,18 +38,25 @@ pub fn clamped_twentieths(floors: u64, x: InfluenceArea) -> u64
     }
 }
 
-// The share of a line that the formula is not for, in twentieths. The papers leave a number that is
-// no class free: it has the share of class 2.
-pub fn other_twentieths(class: u64, floors: u64) -> u64
+// The share of class 2, and of class 1 above 5,000, in twentieths.
+pub fn heavy_twentieths(floors: u64) -> u64
+    ensures { λ r. ⌜ r ≡ heavyTwentieths floors ⌝ }
+{
+    if floors <= 1 {
+        return 20;
+    }
+    16
+}
+
+// The share of a line that the formula is not for, in twentieths: public assembly has the whole load.
+fn other_twentieths(class: u64, floors: u64) -> u64
+    requires { ⌜ between 1 3 class ≡ true ⌝ }
     ensures { λ r. ⌜ r ≡ otherTwentieths class floors ⌝ }
 {
     if class == 3 {
         return 20;
     }
-    if floors <= 1 {
-        return 20;
-    }
-    16
+    heavy_twentieths(floors)
 }
 
 // Where the search for reduced loads begins, for all lines at n floors and the influence area x.
@@ -74,7 +82,7 @@ pub fn root_scale(floors: u64, x: InfluenceArea) -> u64
 // area; refused where the class or the load is outside its limits.
 fn other_load(load: u64, class: u64, floors: u64) -> Answer
     requires { ⌜ (isFormula load class ≡ true → load ≡ 0) ⌝ }
-    ensures { λ r. ⌜ ((x : InfluenceArea) → said r ≡ reducedOf load class floors x) ⌝ }
+    ensures { λ r. ⌜ ((x : InfluenceArea) → saidAnswer r ≡ reducedOf load class floors x) ⌝ }
 {
     if !limits::is_between(1, 3, class) {
         return Answer::Refused(Refusal::UnknownClass);
@@ -94,7 +102,7 @@ pub fn reduced_load_from(
     floors: u64,
     x: InfluenceArea,
 ) -> Answer
-    ensures { λ r. ⌜ said r ≡ reducedOf load class floors x ⌝ }
+    ensures { λ r. ⌜ saidAnswer r ≡ reducedOf load class floors x ⌝ }
 {
     if !member::is_formula(load, class) {
         return other_load(load, class, floors);
@@ -110,7 +118,7 @@ pub fn reduced_load_from(
 // The reduced load R of a line, at n floors and the influence area x; refused where the class or
 // the load is outside its limits. The papers leave 0 floors free: it is then that of one floor.
 pub fn reduced_load(load: u64, class: u64, floors: u64, x: InfluenceArea) -> Answer
-    ensures { λ r. ⌜ said r ≡ reducedOf load class floors x ⌝ }
+    ensures { λ r. ⌜ saidAnswer r ≡ reducedOf load class floors x ⌝ }
 {
     // only a formula line has a root to estimate
     if !member::is_formula(load, class) {

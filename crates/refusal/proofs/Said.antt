@@ -14,7 +14,7 @@ use Rattle.refusal.specs.declared.Refusal.the-variants.{NoLineAtFloor, E
 use Rattle.refusal.specs.declared.Answer.{Answer}
 use Rattle.refusal.specs.declared.Answer.the-variants.{Gives, Refused}
 use Rattle.refusal.specs.Refusal.{numberOf}
-use Rattle.refusal.specs.Said.{Said, gives, refused, said, nothing}
+use Rattle.refusal.specs.Said.{Said, gives, refused, saidAnswer, nothing}
 
 refusals : List Refusal
 refusals =
@@ -53,8 +53,8 @@ of-number EffectOutOfRange = refl
 of-number SheetMalformed = refl
 of-number SheetTooLong = refl
 
-of-said : (a : Answer) → answerOf (said a) ≡ a
-unfolding answerOf said
+of-said : (a : Answer) → answerOf (saidAnswer a) ≡ a
+unfolding answerOf saidAnswer
 of-said (Gives n) = refl
 of-said (Refused r) = ap Refused (of-number r)
 
@@ -63,7 +63,7 @@ pub number-injective : (q r : Refusal) → numberOf q ≡ numberOf r → q ≡ r
 number-injective q r e = sym (of-number q) ∙ (ap ofNumber e ∙ of-number r)
 
 -- two answers that say the same are one answer
-pub said-injective : (a b : Answer) → said a ≡ said b → a ≡ b
+pub said-injective : (a b : Answer) → saidAnswer a ≡ saidAnswer b → a ≡ b
 said-injective a b e = sym (of-said a) ∙ (ap answerOf e ∙ of-said b)
 
 -- no refusal has the number 0
@@ -93,15 +93,15 @@ pub not-zero : {n : ℕ} → 1 ≤ n → eqb n 0 ≡ false
 not-zero {n} h = ne-eqb n 0 (λ q. omega arith)
 
 -- an answer that says what it gives, gives that number and is no refusal
-pub gives-it : {a : Answer} {n k : ℕ} → a ≡ Gives n → said a ≡ gives k → n ≡ k
-unfolding said
+pub gives-it : {a : Answer} {n k : ℕ} → a ≡ Gives n → saidAnswer a ≡ gives k → n ≡ k
+unfolding saidAnswer
 gives-it {a} {n} {k} p q =
-    let e : gives n ≡ gives k = ap said (sym p) ∙ q in
+    let e : gives n ≡ gives k = ap saidAnswer (sym p) ∙ q in
     cc
 
-pub gives-not-refused : {a : Answer} {r : Refusal} {k : ℕ} → a ≡ Refused r → said a ≡ gives k → ⊥
-unfolding said
+pub gives-not-refused : {a : Answer} {r : Refusal} {k : ℕ} → a ≡ Refused r → saidAnswer a ≡ gives k → ⊥
+unfolding saidAnswer
 gives-not-refused {a} {r} {k} p q =
-    let e : refused (numberOf r) nothing ≡ gives k = ap said (sym p) ∙ q in
+    let e : refused (numberOf r) nothing ≡ gives k = ap saidAnswer (sym p) ∙ q in
     let z : _≡_ {A = ℕ} 0 1 = cc in
     omega arith

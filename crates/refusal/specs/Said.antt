@@ -20,6 +20,6 @@ abbrev pub nothing : Unit {0}
 nothing = tt
 
 -- 01, Where each language form belongs: the number and the value of each case of an answer
-unfoldable pub said : Answer → Said ℕ
-said (Gives n) = gives n
-said (Refused r) = refused (numberOf r) nothing
+unfoldable pub saidAnswer : Answer → Said ℕ
+saidAnswer (Gives n) = gives n
+saidAnswer (Refused r) = refused (numberOf r) nothing

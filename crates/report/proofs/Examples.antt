@@ -22,12 +22,13 @@ use Rattle.combination.specs.Factors.{combinations, factorIn, factors}
 use Rattle.combination.specs.Governing.{sumOf, sums, better, bestFrom, best}
 use Rattle.combination.specs.Combine.{governing}
 use Rattle.sheet_lines.specs.Number.{mayGrow, numberEnded, numberFrom, numberAt, begins, fieldAt}
-use Rattle.sheet_lines.specs.Form.{memberKeys, floorKeys, effectKeys, withNumber, fieldsFrom, formBy, memberForm, lineFrom, floorForm, effectEnd, effectForm, isFloor, laterForm, formOf}
+use Rattle.refusal.specs.Refusal.{numberOf}
+use Rattle.sheet_lines.specs.Form.{memberKeys, floorKeys, effectKeys, withNumber, fieldsFrom, formBy, memberForm, lineFrom, floorForm, effectEnd, effectForm, isFloor, laterForm, formOf, saidForm, lineSaid}
 use Rattle.sheet.specs.Sheet.{isComplete, ifTaken, effectNumber, valued, lineTaken, ifRead, readFrom, readSheet}
 use Rattle.report.specs.Report.{effectsWith, floorLine, floorLineOf, floorLines, liveOf, effectsOf, governingLine, governingLines, takedownOf, refusalLine, printed, reportOf}
 use Rattle.report.specs.Examples.{sample, sampleReport, examples, Says}
 
 -- 01, The sheet: every example
 pub examples-hold : All Says examples
-unfolding examples sample sampleReport textOf Says reportOf printed takedownOf refusalLine governingLines governingLine effectsOf effectsWith liveOf lowestFigure floorLines floorLineOf floorLine readSheet readFrom ifRead lineTaken valued effectNumber ifTaken isComplete split withByte formOf laterForm isFloor effectForm effectEnd floorForm lineFrom memberForm formBy fieldsFrom withNumber memberKeys floorKeys effectKeys fieldAt begins numberAt numberFrom numberEnded mayGrow governing best bestFrom better sums sumOf factors combinations factorIn placeOf newtonsOf signed askedOf workingOf enteredOf openedOf columnOf entriesOf unpacked linesOf entryNumber firstCondition lastFloor figureOf lineFigure influenceFrom influenceOf areaOf floorsOf hasFloor carried formulaLines isFormulaLine keep some total tableFactor table4·2 shareOf isFormula formulaShare otherTwentieths oneFloor rootAtLeast rootAtMost leastTwentieths reduced reaches leastFrom decimal signedParts joined digitsIn lastDigit
+unfolding examples sample sampleReport textOf Says reportOf printed takedownOf refusalLine governingLines governingLine effectsOf effectsWith liveOf lowestFigure floorLines floorLineOf floorLine readSheet readFrom ifRead lineTaken valued effectNumber ifTaken isComplete split withByte lineSaid saidForm numberOf formOf laterForm isFloor effectForm effectEnd floorForm lineFrom memberForm formBy fieldsFrom withNumber memberKeys floorKeys effectKeys fieldAt begins numberAt numberFrom numberEnded mayGrow governing best bestFrom better sums sumOf factors combinations factorIn placeOf newtonsOf signed askedOf workingOf enteredOf openedOf columnOf entriesOf unpacked linesOf entryNumber firstCondition lastFloor figureOf lineFigure influenceFrom influenceOf areaOf floorsOf hasFloor carried formulaLines isFormulaLine keep some total tableFactor table4·2 shareOf isFormula formulaShare otherTwentieths oneFloor rootAtLeast rootAtMost leastTwentieths reduced reaches leastFrom decimal signedParts joined digitsIn lastDigit
 examples-hold = more refl (more refl (more refl (more refl (more refl (more refl none)))))

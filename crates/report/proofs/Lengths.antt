@@ -18,7 +18,8 @@ use Rattle.column.specs.declared.Column.{Column}
 use Rattle.figure.specs.declared.Working.{Working}
 use Rattle.column.specs.Column.{Reached}
 use Rattle.figure.specs.Asked.{asked}
-use Rattle.figure.proofs.Most.{Most, asked-most}
+use Rattle.figure.specs.Most.{Most}
+use Rattle.figure.proofs.Most.{asked-most}
 use Rattle.effects.specs.Check.{newtonsOf}
 use Rattle.newtons.specs.Effect.{limit}
 use Rattle.effects.specs.Sized.{Seven}

@@ -1,11 +1,12 @@
 -- Paper 01, "The sheet": what the program takedown prints.
 -- Assumes nothing.
+use mathlib.Core.Path.{_≡_}
 use mathlib.Core.Bool.{cond}
 use mathlib.Core.List.{List, [], _∷_, _++_}
-use Prim.Native.Nat.{ℕ, zero, suc, _+_, _/_}
+use Prim.Native.Nat.{ℕ, zero, suc, _+_, _/_, _≤_}
 use lib.Dec.{eqb}
 use lib.IntN.{ℤ, pos}
-use lib.ListN.{getD}
+use lib.ListN.{length, getD}
 use Rattle.text.specs.Text.{bytesOf, joined, decimal, signedParts}
 use Rattle.text.specs.Lines.{newline}
 use Rattle.refusal.specs.Said.{Said, gives, refused}
@@ -23,6 +24,7 @@ use Rattle.combination.specs.Combine.{governing}
 use Rattle.sheet.specs.declared.Sheet.{Sheet}
 use Rattle.sheet.specs.declared.Reading.{Reading}
 use Rattle.sheet.specs.Sheet.{readSheet}
+use Rattle.report.specs.declared.Reported.{Reported}
 
 -- 01, The sheet: "floors is n, influence is X"; the texts of the line of a floor with this working
 unfoldable pub floorLine : ℕ → Working → List (List ℕ)
@@ -85,3 +87,22 @@ printed r = cond (eqb (r .number) 0) (takedownOf (r .sheet)) (refusalLine (r .nu
 -- 01, The sheet: all that takedown prints from a text
 unfoldable pub reportOf : List ℕ → List ℕ
 reportOf text = joined (printed (readSheet text))
+
+-- 01, Numbers by the place of checking: "all that was lent, is then as before": the bytes that the report of a text puts at
+-- the front of the lent buffer, the take-down, and none where the sheet is refused
+unfoldable pub putOf : List ℕ → List ℕ
+putOf text = let r = readSheet text in cond (eqb (r .number) 0) (joined (takedownOf (r .sheet))) []
+
+-- 01, Numbers by the place of checking and The sheet: what the report of a text answers: the number, 0 where the sheet is read,
+-- the line K, and how many bytes are put
+unfoldable pub reportedOf : List ℕ → Reported
+reportedOf text = let r = readSheet text in record { number = r .number; line = r .line; length = length (putOf text) }
+
+-- 01, The sheet: the bytes of "only `refused=N line=K`"
+unfoldable pub refusalText : ℕ → ℕ → List ℕ
+refusalText n k = joined (refusalLine n k)
+
+-- 01, The sheet: what takedown prints is what the report puts where the number is 0, and else the line of its number and its K
+pub record Prints (text : List ℕ) : Type 0 where
+  pub read : reportedOf text .number ≡ 0 → reportOf text ≡ putOf text
+  pub refused : 1 ≤ reportedOf text .number → reportOf text ≡ refusalText (reportedOf text .number) (reportedOf text .line)

@@ -1,16 +1,20 @@
--- What is printed of the floors, by a table of their numbers. No promise cites it.
+-- What is printed of the floors, by a table of their numbers; a law says it too. No function's promise cites it.
 -- Assumes nothing.
 use mathlib.Core.Bool.{cond}
 use mathlib.Core.List.{List, [], _++_}
 use Prim.Native.Nat.{ℕ, zero, suc, _+_, _*_}
 use lib.Dec.{eqb}
+use lib.IntN.{ℤ}
 use lib.ListN.{getD}
+use Rattle.column.specs.declared.Column.{Column}
 use Rattle.figure.specs.declared.Working.{Working}
+use Rattle.figure.specs.Asked.{workingFrom}
+use Rattle.sheet.specs.declared.Sheet.{Sheet}
 use Rattle.report.specs.Report.{floorLine}
 
--- the working that three numbers say
-abbrev pub workingFrom : ℕ → ℕ → ℕ → Working
-workingFrom n x figure = record { floors = n; influence = record { 0 = x }; figure = figure }
+-- the sheet that a column and six effects make
+abbrev pub sheetFrom : Column → List ℤ → Sheet
+sheetFrom c es = record { column = c; effects = es }
 
 -- the line of a floor; none where its n is 0
 unfoldable pub lineOf : ℕ → Working → List (List ℕ)

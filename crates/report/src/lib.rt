@@ -1,37 +1,56 @@
-// The text that takedown prints for a sheet.
+// The report of a text: what takedown prints for a sheet that is read; and the line of a refusal.
 ghost use mathlib.Core.Path.{_≡_};
-ghost use lib.ListN.{length, take, drop};
+ghost use lib.ListN.{length};
 ghost use Rattle.io.specs.Counts.{Counts};
-ghost use Rattle.text.specs.Text.{joined};
-ghost use Rattle.text.specs.Put.{out, puts};
-ghost use Prim.Native.Nat.{_≤_};
-ghost use Rattle.sheet.specs.Keeps.{Keeps};
-ghost use Rattle.report.specs.Report.{printed, reportOf};
-use sheet::Reading;
+ghost use Rattle.text.specs.Put.{fronted};
+ghost use Rattle.report.specs.Report.{putOf, reportedOf, refusalText};
 
 mod lines;
 mod takedown;
 
-// Puts what is printed of what reading gave.
-fn put_reading(to: &mut [u8], reading: Reading) -> usize
-    requires { ⌜ (reading .number ≡ 0 → Keeps (reading .sheet)) ⌝ }
-    ensures { λ r. ⌜ out (now (to .exit)) r ≡ puts (now (to .entry)) 0 (printed reading) ⌝ }
-    ensures { λ _. ⌜ length (joined (printed reading)) ≤ 3960 ⌝ }
-{
-    if reading.number == 0 {
-        let sheet = reading.sheet;
-        return takedown::put_takedown(to, sheet);
-    }
-    lines::put_refusal(to, reading.number, reading.line)
+// The bytes of the buffer that a report is put into; no report has more than 3,960.
+pub const ROOM: usize = 4096;
+
+// What reporting gives: the number of the refusal, 0 where the sheet is read; the line K; and how many
+// bytes were put, 0 where the sheet is refused.
+#[repr(C)]
+pub struct Reported {
+    pub number: u64,
+    pub line: u64,
+    pub length: usize,
 }
 
-// Puts what takedown prints for a text at the start of a buffer, and gives how many bytes that is;
-// the rest of the buffer stays as it was. No report has more than 3,960 bytes, so all find room.
-pub fn report(text: &[u8], out: &mut [u8; 4096]) -> usize
-    ensures { λ r. ⌜ r ≡ length (reportOf (now (text .entry))) ⌝ }
-    ensures { λ r. ⌜ Counts r (now (out .exit)) ⌝ }
-    ensures { λ r. ⌜ take r (now (out .exit)) ≡ reportOf (now (text .entry)) ⌝ }
-    ensures { λ r. ⌜ drop r (now (out .exit)) ≡ drop r (now (out .entry)) ⌝ }
+// Puts the take-down of a text at the front of a buffer. Where the sheet is refused nothing is put: the
+// buffer is as it was.
+pub fn report(text: &[u8], out: &mut [u8; ROOM]) -> Reported
+    ensures { λ r. ⌜ r ≡ reportedOf (now (text .entry)) ⌝ }
+    ensures { λ _. ⌜ now (out .exit) ≡ fronted (putOf (now (text .entry))) (now (out .entry)) ⌝ }
+    ensures { λ r. ⌜ Counts (r .length) (now (out .exit)) ⌝ }
 {
-    put_reading(out, sheet::read(text))
+    let reading = sheet::read(text);
+    if 0 < reading.number {
+        return Reported {
+            number: reading.number,
+            line: reading.line,
+            length: 0,
+        };
+    }
+    let member = reading.sheet.column.member;
+    let count = reading.sheet.column.count;
+    let effects = reading.sheet.effects;
+    Reported {
+        number: reading.number,
+        line: reading.line,
+        length: takedown::put_takedown(out, &reading.sheet.column.held, member, count, effects),
+    }
+}
+
+// Puts the line that takedown prints for a refused sheet, of which only the number and the line K are
+// known here, at the front of a buffer; gives how many bytes that is.
+pub fn put_refusal(number: u64, line: u64, out: &mut [u8; ROOM]) -> usize
+    ensures { λ r. ⌜ r ≡ length (refusalText number line) ⌝ }
+    ensures { λ _. ⌜ now (out .exit) ≡ fronted (refusalText number line) (now (out .entry)) ⌝ }
+    ensures { λ r. ⌜ Counts r (now (out .exit)) ⌝ }
+{
+    lines::put_refusal(out, number, line)
 }

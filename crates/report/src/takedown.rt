@@ -8,15 +8,17 @@ ghost use Rattle.combination.specs.Combine.{governing};
 ghost use Rattle.column.specs.Line.{lowestFloor};
 ghost use Rattle.sheet.specs.Keeps.{EffectsWithin, Keeps};
 ghost use Rattle.report.specs.Report.{effectsWith, governingLines, takedownOf};
-ghost use Rattle.report.specs.Table.{lineOf, workingAfter, tableLines};
+ghost use Rattle.column.specs.Column.{columnFrom};
+ghost use Rattle.report.specs.Table.{sheetFrom, lineOf, workingAfter, tableLines};
 use crate::lines;
+use column::Member;
+use column::Places;
 use combination::Governed;
 use effects::Newtons;
 use figure::NUMBERS;
 use figure::Table;
 use figure::Working;
 use reduction::InfluenceArea;
-use sheet::Sheet;
 use sheet_lines::EFFECTS;
 
 // How many floors there can be.
@@ -101,16 +103,19 @@ fn put_governing(to: &mut [u8], at: usize, effects: [i64; EFFECTS], live: u64) -
     }
 }
 
-// Puts all that is printed of a sheet.
-pub fn put_takedown(to: &mut [u8], sheet: Sheet) -> usize
-    requires { ⌜ Keeps sheet ⌝ }
-    ensures { λ r. ⌜ out (now (to .exit)) r ≡ puts (now (to .entry)) 0 (takedownOf sheet) ⌝ }
+// Puts all that is printed of a sheet, whose column is lent in its parts.
+pub fn put_takedown(
+    to: &mut [u8],
+    held: &Places,
+    member: Member,
+    count: u16,
+    effects: [i64; EFFECTS],
+) -> usize
+    requires { ⌜ Keeps (sheetFrom (columnFrom member count (now held)) effects) ⌝ }
+    ensures { λ r. ⌜ out (now (to .exit)) r ≡ puts (now (to .entry)) 0 (takedownOf (sheetFrom (columnFrom member count (now (held .entry))) effects)) ⌝ }
 {
-    let column = sheet.column;
-    let effects = sheet.effects;
-    let member = column.member;
     let mut table = [0u64; NUMBERS];
-    let lowest = figure::work_out(&column.held, member, column.count, &mut table);
+    let lowest = figure::work_out(held, member, count, &mut table);
     let live = live_effect(lowest);
     let next = put_floors(to, &table);
     put_governing(to, next, effects, live)

@@ -16,8 +16,8 @@ use Rattle.newtons.specs.Effect.{magnitudeOf, limit}
 use Rattle.sheet_lines.specs.declared.Due.{Due}
 use Rattle.sheet_lines.specs.declared.Due.the-variants as D
 use Rattle.sheet_lines.specs.declared.Form.{Form}
-use Rattle.sheet_lines.specs.declared.Form.the-variants as F
-use Rattle.sheet_lines.specs.Form.{effectCount, formOf}
+use Rattle.refusal.specs.Said.{Said, gives, refused}
+use Rattle.sheet_lines.specs.Form.{effectCount, Content, memberSaid, floorSaid, effectSaid, saidForm, lineSaid}
 use Rattle.sheet_lines.specs.Says.{member, floor, effect}
 use Rattle.sheet_lines.proofs.SaysForm.{Read, says, malformed, form-read}
 use Rattle.sheet.specs.declared.Sheet.{Sheet}
@@ -56,57 +56,57 @@ Within z = magnitudeOf z ≤ limit
 pub each-within : {es : List ℤ} → EffectsWithin es → (k : ℕ) → magnitudeOf (getD es k (pos 0)) ≤ limit
 each-within w k = all-at {P = Within} (pos 0) (omega arith) (w .each) k
 
--- what holds before a line with this form
-unfoldable pub Ready : Draft → Form → Type 0
-Ready d (F.Member code) = d .sheet .column ≡ unopened
-Ready d (F.Floor x) = Reached (d .sheet .column)
-Ready d (F.Effect k z) = (k < effectCount) × Reached (d .sheet .column)
-Ready d F.Malformed = Unit {0}
+-- what holds before a line that says this
+unfoldable pub Ready : Draft → Said Content → Type 0
+Ready d (gives (memberSaid code)) = d .sheet .column ≡ unopened
+Ready d (gives (floorSaid x)) = Reached (d .sheet .column)
+Ready d (gives (effectSaid k z)) = (k < effectCount) × Reached (d .sheet .column)
+Ready d (refused n _) = Unit {0}
 
-pub line-ready : (d : Draft) (l : List ℕ) {f : Form} → formOf (d .due) l ≡ f → Kept d → Ready d f
-unfolding Ready KeepsColumn
+pub line-ready : (d : Draft) (l : List ℕ) {t : Said Content} → lineSaid (d .due) l ≡ t → Kept d → Ready d t
+unfolding Ready KeepsColumn saidForm lineSaid
 line-ready d l e k = subst (Ready d) e (go (form-read (d .due) l))
   where
     at : {due : Due} → d .due ≡ due → KeepsColumn due (d .sheet .column)
     at q = subst (λ (u : Due). KeepsColumn u (d .sheet .column)) q (k .column)
 
-    go : {f : Form} → Read (d .due) l f → Ready d f
-    go (malformed e) = subst⁻¹ (Ready d) e tt
-    go (says (member code q e t)) = subst⁻¹ (Ready d) e (at q)
-    go (says (floor x q e t)) = subst⁻¹ (Ready d) e (at q)
-    go (says (effect n z h q e t)) = subst⁻¹ (Ready d) e (h, at q)
+    go : {f : Form} → Read (d .due) l f → Ready d (saidForm f)
+    go (malformed e) = subst⁻¹ (λ (f : Form). Ready d (saidForm f)) e tt
+    go (says (member code q e t)) = subst⁻¹ (λ (f : Form). Ready d (saidForm f)) e (at q)
+    go (says (floor x q e t)) = subst⁻¹ (λ (f : Form). Ready d (saidForm f)) e (at q)
+    go (says (effect n z h q e t)) = subst⁻¹ (λ (f : Form). Ready d (saidForm f)) e (h, at q)
 
-valued-kept : (d : Draft) (f : Form) → Ready d f → Kept d → Kept (valued d f .draft)
+valued-kept : (d : Draft) (t : Said Content) → Ready d t → Kept d → Kept (valued d t .draft)
 unfolding valued Ready KeepsColumn
-valued-kept d (F.Member code) r k =
+valued-kept d (gives (memberSaid code)) r k =
     if-kept _ d _ k λ z.
     record { column = reached-opened (memberOf code) z; effects = k .effects }
-valued-kept d (F.Floor x) r k = if-kept _ d _ k λ z. record { column = reached-entered x r; effects = k .effects }
-valued-kept d (F.Effect n z) r k =
+valued-kept d (gives (floorSaid x)) r k = if-kept _ d _ k λ z. record { column = reached-entered x r; effects = k .effects }
+valued-kept d (gives (effectSaid n z)) r k =
     if-kept (effectNumber z) d (withEffect d n z) k λ h.
     record { column = r .1; effects = record { count = length-set (d .sheet .effects) n z ∙ k .effects .count; each = all-set {P = Within} n z (effect-taken z h) (k .effects .each) } }
-valued-kept d F.Malformed r k = if-kept _ d d k (λ _. k)
+valued-kept d (refused n _) r k = if-kept _ d d k (λ _. k)
 
 -- a line leaves a draft that keeps the limits
 pub line-kept : (d : Draft) (l : List ℕ) → Kept d → Kept (lineTaken d l .draft)
 unfolding lineTaken
-line-kept d l k = valued-kept d (formOf (d .due) l) (line-ready d l refl k) k
+line-kept d l k = valued-kept d (lineSaid (d .due) l) (line-ready d l refl k) k
 
 -- a line that is refused leaves the draft as it was
 if-same : (n : ℕ) (d next : Draft) → (n ≡ 0 → ⊥) → ifTaken n d next .draft ≡ d
 unfolding ifTaken
 if-same n d next h = rw (ne-eqb n 0 h)
 
-valued-same : (d : Draft) (f : Form) → (valued d f .number ≡ 0 → ⊥) → valued d f .draft ≡ d
+valued-same : (d : Draft) (t : Said Content) → (valued d t .number ≡ 0 → ⊥) → valued d t .draft ≡ d
 unfolding valued ifTaken
-valued-same d (F.Member code) h = if-same _ d _ h
-valued-same d (F.Floor x) h = if-same _ d _ h
-valued-same d (F.Effect k z) h = if-same (effectNumber z) d (withEffect d k z) h
-valued-same d F.Malformed h = if-same _ d d h
+valued-same d (gives (memberSaid code)) h = if-same _ d _ h
+valued-same d (gives (floorSaid x)) h = if-same _ d _ h
+valued-same d (gives (effectSaid k z)) h = if-same (effectNumber z) d (withEffect d k z) h
+valued-same d (refused n _) h = if-same _ d d h
 
 pub line-refused : (d : Draft) (l : List ℕ) → (lineTaken d l .number ≡ 0 → ⊥) → lineTaken d l .draft ≡ d
 unfolding lineTaken
-line-refused d l h = valued-same d (formOf (d .due) l) h
+line-refused d l h = valued-same d (lineSaid (d .due) l) h
 
 -- before the first line nothing is asked of the column, and no effect is beyond the limit
 pub unread-kept : Kept unread

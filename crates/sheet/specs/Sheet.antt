@@ -12,9 +12,8 @@ use Rattle.column.specs.Column.{memberOf, unopened, openedOf, enteredOf}
 use Rattle.newtons.specs.Effect.{within}
 use Rattle.sheet_lines.specs.declared.Due.{Due}
 use Rattle.sheet_lines.specs.declared.Due.the-variants as D
-use Rattle.sheet_lines.specs.declared.Form.{Form}
-use Rattle.sheet_lines.specs.declared.Form.the-variants as F
-use Rattle.sheet_lines.specs.Form.{effectCount, formOf}
+use Rattle.refusal.specs.Said.{Said, gives, refused}
+use Rattle.sheet_lines.specs.Form.{effectCount, Content, memberSaid, floorSaid, effectSaid, lineSaid}
 use Rattle.sheet.specs.declared.Sheet.{Sheet}
 use Rattle.sheet.specs.declared.Reading.{Reading}
 use Rattle.text.specs.Lines.{Lines, line, rest, split}
@@ -57,16 +56,16 @@ effectNumber z = cond (within z) 0 9
 abbrev pub withOutcome : Draft → Outcome → Taken
 withOutcome d o = ifTaken (o .number) d (withColumn d (o .column))
 
--- 01, Numbers by the place of checking: the number of each case of a form: of a line that has the form, by its values, 1; 2 to 6; 9; without the form 10
-unfoldable pub valued : Draft → Form → Taken
-valued d (F.Member code) = withOutcome d (openedOf (memberOf code))
-valued d (F.Floor l) = withOutcome d (enteredOf (d .sheet .column) l)
-valued d (F.Effect k z) = ifTaken (effectNumber z) d (withEffect d k z)
-valued d F.Malformed = ifTaken 10 d d
+-- 01, Numbers by the place of checking: what becomes of what a line says, by its values: 1; 2 to 6; 9; and without the form 10
+unfoldable pub valued : Draft → Said Content → Taken
+valued d (gives (memberSaid code)) = withOutcome d (openedOf (memberOf code))
+valued d (gives (floorSaid l)) = withOutcome d (enteredOf (d .sheet .column) l)
+valued d (gives (effectSaid k z)) = ifTaken (effectNumber z) d (withEffect d k z)
+valued d (refused n _) = ifTaken n d d
 
 -- 01, Numbers by the place of checking: "each line: form, then its values"
 unfoldable pub lineTaken : Draft → List ℕ → Taken
-lineTaken d l = valued d (formOf (d .due) l)
+lineTaken d l = valued d (lineSaid (d .due) l)
 
 -- what reading gives where it stops: the number, the line K, the part from start to end, and the sheet so far
 abbrev pub reading : ℕ → ℕ → ℕ → ℕ → Draft → Reading
@@ -86,9 +85,13 @@ readFrom k at d (line l ls) =
     let t = lineTaken d l in
     ifRead t (k + 1) at (at + length l) d (readFrom (k + 1) (at + length l + 1) (t .draft) ls)
 
+-- 01, Numbers by the place of checking: the most bytes that a sheet may have
+abbrev pub longest : ℕ
+longest = 32768
+
 -- 01, Numbers by the place of checking: "length first", 11, with K = 0 and the empty part at the start; then each line
 unfoldable pub readSheet : List ℕ → Reading
-readSheet text = cond (ltb 32768 (length text)) (reading 11 0 0 0 unread) (readFrom 0 0 unread (split text))
+readSheet text = cond (ltb longest (length text)) (reading 11 0 0 0 unread) (readFrom 0 0 unread (split text))
 
 -- 01, The sheet: "hands back the offending line": the bytes from start to end
 unfoldable pub offendingOf : List ℕ → List ℕ

@@ -21,6 +21,7 @@ mod steps;
 pub const LONGEST: usize = 32768;
 
 // What a sheet says: a column, and six effects in newtons, dead to quake; live is worked out from the column.
+#[repr(C)]
 pub struct Sheet {
     pub column: Column,
     pub effects: [i64; EFFECTS],
@@ -29,6 +30,7 @@ pub struct Sheet {
 // What reading gives: the number of the refusal, 0 where the sheet is read; the line K, which is the
 // last line where it is read; where the offending part starts and ends; and the sheet, as far as it
 // was read.
+#[repr(C)]
 pub struct Reading {
     pub number: u64,
     pub line: u64,
@@ -111,21 +113,23 @@ fn read_in(held: &mut Places, text: &[u8]) -> Summary
 pub fn read(text: &[u8]) -> Reading
     ensures { λ r. ⌜ (r ≡ readSheet (now (text .entry))) × (r .number ≡ 0 → Keeps (r .sheet)) ⌝ }
 {
-    let mut held = [0u64; LINES];
-    let summary = read_in(&mut held, text);
+    let mut column = Column {
+        member: Member { code: 0 },
+        count: 0,
+        held: [0; LINES],
+    };
+    let summary = read_in(&mut column.held, text);
     let member = summary.member;
     let effects = summary.effects;
+    column.member = member;
+    column.count = summary.count;
     Reading {
         number: summary.number,
         line: summary.line,
         start: summary.start,
         end: summary.end,
         sheet: Sheet {
-            column: Column {
-                member: member,
-                count: summary.count,
-                held: held,
-            },
+            column: column,
             effects: effects,
         },
     }

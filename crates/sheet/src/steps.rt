@@ -3,8 +3,8 @@ ghost use mathlib.Core.Path.{_≡_};
 ghost use mathlib.Core.List.{List};
 ghost use Prim.Native.Nat.{ℕ, _<_};
 ghost use Rattle.column.specs.Column.{noPlaces, columnFrom, unopened, Reached};
-ghost use Rattle.sheet_lines.specs.Form.{effectCount};
-ghost use Rattle.sheet_lines.specs.declared.Form.the-variants as Form;
+ghost use Rattle.refusal.specs.Said.{gives};
+ghost use Rattle.sheet_lines.specs.Form.{effectCount, memberSaid, floorSaid, effectSaid};
 ghost use Rattle.sheet.specs.Sheet.{unread, isComplete, effectNumber, valued, lineTaken};
 ghost use Rattle.sheet.specs.Keeps.{KeepsSoFar};
 ghost use Rattle.sheet.specs.InPlace.{draftOf, takenOf};
@@ -17,12 +17,12 @@ use sheet_lines::EFFECTS;
 use sheet_lines::Form;
 
 // A sheet as far as it was read, its lines aside, whose numbers are in the lent places; and the line
-// that is due.
+// that is due. The effects stand first: behind the narrow fields each line took longer to read.
 pub struct Progress {
-    pub due: Due,
-    pub member: Member,
-    pub count: u16,
     pub effects: [i64; EFFECTS],
+    pub due: Due,
+    pub count: u16,
+    pub member: Member,
 }
 
 // What becomes of a line: the number of its refusal, 0 where it is taken, and the sheet then.
@@ -66,7 +66,7 @@ fn effect_number(newtons: i64) -> u64
 // The sheet with a member that is opened; as it was where opening is refused. No line is held before
 // the member, so the places are those of a column without lines.
 fn open_member(progress: Progress, code: u64) -> Step
-    ensures { λ r. ⌜ ((places : List ℕ) → columnFrom (progress .member) (progress .count) places ≡ unopened → takenOf r places ≡ valued (draftOf progress places) (Form.Member code)) ⌝ }
+    ensures { λ r. ⌜ ((places : List ℕ) → columnFrom (progress .member) (progress .count) places ≡ unopened → takenOf r places ≡ valued (draftOf progress places) (gives (memberSaid code))) ⌝ }
 {
     let opened = column::opening(code);
     if opened.number != 0 {
@@ -91,7 +91,7 @@ fn open_member(progress: Progress, code: u64) -> Step
 // The sheet with a line that is entered; as it was where entering is refused.
 fn enter_line(held: &mut Places, progress: Progress, line: Line) -> Step
     requires { ⌜ Reached (columnFrom (progress .member) (progress .count) (now held)) ⌝ }
-    ensures { λ r. ⌜ takenOf r (now (held .exit)) ≡ valued (draftOf progress (now (held .entry))) (Form.Floor line) ⌝ }
+    ensures { λ r. ⌜ takenOf r (now (held .exit)) ≡ valued (draftOf progress (now (held .entry))) (gives (floorSaid line)) ⌝ }
 {
     let member = progress.member;
     let joined = column::enter_in(held, member, progress.count, line);
@@ -116,7 +116,7 @@ fn enter_line(held: &mut Places, progress: Progress, line: Line) -> Step
 // The sheet with the effect at a place; as it was where the effect is beyond the limit.
 fn take_effect(progress: Progress, place: usize, newtons: i64) -> Step
     requires { ⌜ place < effectCount ⌝ }
-    ensures { λ r. ⌜ ((places : List ℕ) → takenOf r places ≡ valued (draftOf progress places) (Form.Effect place newtons)) ⌝ }
+    ensures { λ r. ⌜ ((places : List ℕ) → takenOf r places ≡ valued (draftOf progress places) (gives (effectSaid place newtons))) ⌝ }
 {
     let refused = effect_number(newtons);
     if refused != 0 {

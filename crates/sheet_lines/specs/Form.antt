@@ -5,7 +5,11 @@ use mathlib.Core.List.{List, [], _∷_, _++_}
 use mathlib.Core.Option.{Option, some, none}
 use Prim.Native.Nat.{ℕ, _+_}
 use lib.Dec.{eqb, ltb}
+use lib.IntN.{ℤ}
 use lib.ListN.{length, drop, getD}
+use Rattle.refusal.specs.Refusal.{numberOf}
+use Rattle.refusal.specs.declared.Refusal.the-variants.{SheetMalformed}
+use Rattle.refusal.specs.Said.{Said, gives, refused, nothing}
 use Rattle.text.specs.Text.{bytesOf, minus}
 use Rattle.newtons.specs.Effect.{signed}
 use Rattle.column.specs.declared.Line.{Line}
@@ -93,3 +97,20 @@ laterForm k l = cond (ltb k effectCount) (cond (isFloor k l) (floorForm l) (effe
 unfoldable pub formOf : Due → List ℕ → Form
 formOf D.Member l = memberForm l
 formOf (D.Effect k) l = laterForm k l
+
+-- 01, The sheet: what a line with its form says: a member's code, the four numbers of a floor line, or the effect at a place
+pub data Content : Type 0 where
+  memberSaid : ℕ → Content
+  floorSaid : Line → Content
+  effectSaid : ℕ → ℤ → Content
+
+-- 01, Where each language form belongs: the number and the values of each case of a form; 10 where it is "not the form above"
+unfoldable pub saidForm : Form → Said Content
+saidForm (Member code) = gives (memberSaid code)
+saidForm (Floor l) = gives (floorSaid l)
+saidForm (Effect k z) = gives (effectSaid k z)
+saidForm Malformed = refused (numberOf SheetMalformed) nothing
+
+-- 01, The sheet: what a line says where this is due, or 10
+unfoldable pub lineSaid : Due → List ℕ → Said Content
+lineSaid due l = saidForm (formOf due l)

@@ -3,7 +3,7 @@ ghost use mathlib.Core.Path.{_≡_};
 ghost use mathlib.Core.List.{[]};
 ghost use Prim.Native.Nat.{_≤_};
 ghost use lib.ListN.{length};
-ghost use Rattle.sheet_lines.specs.Form.{fieldsFrom, memberForm, floorForm, effectEnd, effectForm, isFloor, laterForm, formOf};
+ghost use Rattle.sheet_lines.specs.Form.{fieldsFrom, memberForm, floorForm, effectEnd, effectForm, isFloor, laterForm, saidForm, lineSaid};
 ghost use Rattle.sheet_lines.specs.InLine.{Starts, partsOf, told};
 use column::Line;
 use member::TributaryArea;
@@ -159,7 +159,7 @@ fn later_form(place: usize, line: &[u8]) -> Form
 
 // What a line says, without its newline, where a line of some kind is due.
 pub fn form_of(due: Due, line: &[u8]) -> Form
-    ensures { λ r. ⌜ r ≡ formOf due (now (line .entry)) ⌝ }
+    ensures { λ r. ⌜ saidForm r ≡ lineSaid due (now (line .entry)) ⌝ }
 {
     match due {
         Due::Member => member_form(line),

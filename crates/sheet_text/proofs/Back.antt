@@ -20,13 +20,14 @@ use Rattle.column.specs.Accepted.{lastFloor, entryNumber}
 use Rattle.column.specs.Column.{linesOf, columnOf, openedOf, enteredOf}
 use Rattle.column.proofs.Lines.{lines-length as held-length}
 use Rattle.column.proofs.Columns.{column-lines}
-use Rattle.column.proofs.Reach.{Holdable, no-condition, reached-is, sound}
-use Rattle.column.proofs.InTurn.{AcceptedInTurn, none, more, reached-in-turn, in-turn-holdable}
+use Rattle.column.specs.InTurn.{Holdable, AcceptedInTurn, none, more}
+use Rattle.column.proofs.Reach.{no-condition, reached-is, sound}
+use Rattle.column.proofs.InTurn.{reached-in-turn, in-turn-holdable}
 use Rattle.newtons.specs.Effect.{magnitudeOf, limit}
 use Rattle.sheet_lines.specs.declared.Due.the-variants as D
 use Rattle.sheet_lines.specs.declared.Form.{Form}
 use Rattle.sheet_lines.specs.declared.Form.the-variants as F
-use Rattle.sheet_lines.specs.Form.{effectKeys, effectCount, keyAt, lineNumbers}
+use Rattle.sheet_lines.specs.Form.{effectKeys, effectCount, keyAt, lineNumbers, saidForm, lineSaid}
 use Rattle.sheet_lines.specs.Says.{memberText, floorText, effectText, as-written, Says, member, floor, effect}
 use Rattle.sheet_lines.proofs.SaysForm.{ShortForm, says-form}
 use Rattle.sheet.specs.declared.Sheet.{Sheet}
@@ -47,9 +48,9 @@ record ReadsTo (ls : List (List ℕ)) (d : Draft) : Type 0 where
   short : length (textOf ls) ≤ length ls * 78
 
 -- so it has after one line more, which says what is taken
-reads-more : {ls : List (List ℕ)} {d : Draft} (next : Draft) (l : List ℕ) (f : Form) → Says (d .due) l f → ShortForm f → valued d f ≡ record { number = 0; draft = next }
+reads-more : {ls : List (List ℕ)} {d : Draft} (next : Draft) (l : List ℕ) (f : Form) → Says (d .due) l f → ShortForm f → valued d (saidForm f) ≡ record { number = 0; draft = next }
     → ReadsTo ls d → ReadsTo (ls ++ (l ∷ [])) next
-unfolding readFrom ifRead lineTaken
+unfolding readFrom ifRead lineTaken lineSaid
 reads-more {ls} {d} next l f s h v c =
     let b = textOf ls in
     let more = text-more ls l in
@@ -92,7 +93,7 @@ short-line m ls x e =
 -- one floor line more is read
 reads-floor : (m : Member) (xs : List Line) (x : Line) → Holdable xs → entryNumber m xs x ≡ 0 → {fs gs hs : List (List ℕ)} → fs ≡ gs ++ hs → SayFloors hs (x ∷ [])
     → ReadsTo (memberText (m .code) ∷ gs) (lined (columnOf m xs)) → ReadsTo (memberText (m .code) ∷ fs) (lined (columnOf m (xs ++ (x ∷ []))))
-unfolding valued ifTaken enteredOf columnOf
+unfolding valued saidForm ifTaken enteredOf columnOf
 reads-floor m xs x held e q (and-line {l} t no-line) c =
     subst⁻¹ (λ (k : List (List ℕ)). ReadsTo (memberText (m .code) ∷ k) (lined (columnOf m (xs ++ (x ∷ []))))) q
     (reads-more (lined (columnOf m (xs ++ (x ∷ [])))) l (F.Floor x) (floor x refl refl t) (short-line m xs x e) (rw (column-lines m xs (held .lines), e)) c)
@@ -100,7 +101,7 @@ reads-floor m xs x held e q (and-line {l} t no-line) c =
 -- the lines before dead are read
 reads-lines : {m : Member} {xs : List Line} → between 1 12 (m .code) ≡ true → AcceptedInTurn m xs → {fs : List (List ℕ)} → SayFloors fs xs
     → ReadsTo (memberText (m .code) ∷ fs) (lined (columnOf m xs))
-unfolding valued ifTaken openedOf textOf ShortForm
+unfolding valued saidForm ifTaken openedOf textOf ShortForm
 reads-lines {m} h none no-line =
     let start : ReadsTo [] unread = record { reads = λ left. refl; short = omega arith } in
     reads-more (lined (columnOf m [])) (memberText (m .code)) (F.Member (m .code)) (member (m .code) refl refl refl) (omega (arith, limits 1 12 (m .code) h)) (rw h) start
@@ -124,7 +125,7 @@ module _ (s : Sheet) (ok : Keeps s) (fs : List (List ℕ)) (say : SayFloors fs (
       rw (sym (reached-is r)) at (reads-lines (sound r .code) (reached-in-turn r) say)
 
   reads-effects : (k : ℕ) → k ≤ effectCount → ReadsTo (linesWith fs k (upTo k .sheet)) (upTo k)
-  unfolding linesWith effectKeys valued ifTaken effectNumber ShortForm
+  unfolding linesWith effectKeys valued saidForm ifTaken effectNumber ShortForm
   reads-effects zero h = rw (append-nil fs) reads-before
   reads-effects (suc k) h =
       let es = s .effects in
@@ -133,7 +134,7 @@ module _ (s : Sheet) (ok : Keeps s) (fs : List (List ℕ)) (say : SayFloors fs (
       let l = effectText (keyAt effectKeys k) z in
       let within : magnitudeOf z ≤ limit = each-within (ok .effects) k in
       let next : set so-far k z ≡ upTo (suc k) .sheet .effects = filled es (replicate effectCount (pos 0)) k (ok .effects .count) (omega (arith, ok .effects .count)) in
-      let taken : valued (upTo k) (F.Effect k z) ≡ record { number = 0; draft = upTo (suc k) } = rw (le-leb (magnitudeOf z) limit within, add-one k, next) in
+      let taken : valued (upTo k) (saidForm (F.Effect k z)) ≡ record { number = 0; draft = upTo (suc k) } = rw (le-leb (magnitudeOf z) limit within, add-one k, next) in
       let six : length so-far ≡ effectCount = length-append (take k es) (drop k (replicate effectCount (pos 0))) ∙ omega (arith, length-take-le k es (omega (arith, ok .effects .count)), length-drop k (replicate effectCount (pos 0))) in
       let lines = rw (add-one k, next) at (lines-next effectKeys so-far k z l six h refl) in
       rw (lines, ← append-assoc fs (take k (effectLines effectKeys so-far)) (l ∷ []))

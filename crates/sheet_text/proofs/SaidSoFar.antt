@@ -17,7 +17,8 @@ use Rattle.column.proofs.Columns.{column-lines, more-lines}
 use Rattle.column.proofs.Reach.{no-condition, opened-column}
 use Rattle.sheet_lines.specs.declared.Due.{Due}
 use Rattle.sheet_lines.specs.declared.Form.{Form}
-use Rattle.sheet_lines.specs.Form.{effectKeys, keyAt}
+use Rattle.refusal.specs.Refusal.{numberOf}
+use Rattle.sheet_lines.specs.Form.{effectKeys, keyAt, saidForm, lineSaid}
 use Rattle.sheet_lines.specs.Says.{effectText, SaysFloor, member, floor, effect}
 use Rattle.sheet_lines.proofs.SaysForm.{Read, says, malformed, form-read}
 use Rattle.sheet.specs.Sheet.{Draft, ifTaken, valued, lineTaken}
@@ -68,19 +69,19 @@ module _ (d : Draft) (l : List ℕ) (kept : Kept d) (ls : List (List ℕ)) (so-f
   unfolding ifTaken
   if-adds n next f h = rw h (f h)
 
-  adds : {f : Form} → Read (d .due) l f → valued d f .number ≡ 0 → Adds (valued d f .draft)
-  unfolding valued SayBefore linesWith columnOf enteredOf entryNumber effectKeys
-  adds (malformed e) = subst⁻¹ (λ (f : Form). valued d f .number ≡ 0 → Adds (valued d f .draft)) e (if-adds 10 d (λ h. absurd (omega arith)))
+  adds : {f : Form} → Read (d .due) l f → valued d (saidForm f) .number ≡ 0 → Adds (valued d (saidForm f) .draft)
+  unfolding valued saidForm numberOf SayBefore linesWith columnOf enteredOf entryNumber effectKeys
+  adds (malformed e) = subst⁻¹ (λ (f : Form). valued d (saidForm f) .number ≡ 0 → Adds (valued d (saidForm f) .draft)) e (if-adds 10 d (λ h. absurd (omega arith)))
   adds (says (member code q e t)) =
       let m = memberOf code in
-      subst⁻¹ (λ (f : Form). valued d f .number ≡ 0 → Adds (valued d f .draft)) e
+      subst⁻¹ (λ (f : Form). valued d (saidForm f) .number ≡ 0 → Adds (valued d (saidForm f) .draft)) e
       (if-adds _ _ λ h.
       subst⁻¹ (λ (c : Column). SayWith 0 (record { column = c; effects = d .sheet .effects }) (ls ++ (l ∷ []))) (opened-column m h)
       (record { floors = []; say = rw (column-lines m [] none) no-line; all = rw (before q, t) }))
   adds (says (floor x q e t)) =
       let c = d .sheet .column in
       let b : SayWith 0 (d .sheet) ls = before q in
-      subst⁻¹ (λ (f : Form). valued d f .number ≡ 0 → Adds (valued d f .draft)) e
+      subst⁻¹ (λ (f : Form). valued d (saidForm f) .number ≡ 0 → Adds (valued d (saidForm f) .draft)) e
       (if-adds _ _ λ h.
       rw h
       (record {
@@ -91,7 +92,7 @@ module _ (d : Draft) (l : List ℕ) (kept : Kept d) (ls : List (List ℕ)) (so-f
   adds (says (effect k z n q e t)) =
       let es = d .sheet .effects in
       let b : SayWith k (d .sheet) ls = before q in
-      subst⁻¹ (λ (f : Form). valued d f .number ≡ 0 → Adds (valued d f .draft)) e
+      subst⁻¹ (λ (f : Form). valued d (saidForm f) .number ≡ 0 → Adds (valued d (saidForm f) .draft)) e
       (if-adds _ _ λ h.
       record {
         floors = b .floors;
@@ -102,5 +103,5 @@ module _ (d : Draft) (l : List ℕ) (kept : Kept d) (ls : List (List ℕ)) (so-f
 -- a line that is taken is one more line
 pub line-adds : (d : Draft) (l : List ℕ) → Kept d → (ls : List (List ℕ)) → SayBefore (d .due) (d .sheet) ls → lineTaken d l .number ≡ 0
     → SayBefore (lineTaken d l .draft .due) (lineTaken d l .draft .sheet) (ls ++ (l ∷ []))
-unfolding lineTaken
+unfolding lineTaken lineSaid
 line-adds d l k ls s = adds d l k ls s (form-read (d .due) l)

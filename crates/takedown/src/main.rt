@@ -1,10 +1,30 @@
 // Reads a sheet from standard input and prints its take-down.
+ghost use mathlib.Core.Path.{_≡_};
+ghost use Prim.Native.Nat.{_<_};
+ghost use lib.ListN.{length, take};
+ghost use Rattle.io.specs.Counts.{Counts};
+ghost use Rattle.sheet.specs.Sheet.{longest};
+ghost use Rattle.report.specs.Report.{reportOf};
 use input::Ending;
 use libc::STDIN_FILENO;
 use libc::STDOUT_FILENO;
 
 // One byte more than a sheet may have, which tells a longer text from it.
 const ROOM: usize = sheet::LONGEST + 1;
+
+// Puts all that is printed for the text at the start of a buffer, and gives how many bytes that is. The
+// buffer has room for more than the longest sheet, so that no longer text is cut to one.
+fn put_printed(buffer: &[u8], count: usize, out: &mut [u8; report::ROOM]) -> usize
+    requires { ⌜ Counts count (now buffer) × (longest < length (now buffer)) ⌝ }
+    ensures { λ r. ⌜ take r (now (out .exit)) ≡ reportOf (take count (now (buffer .entry))) ⌝ }
+    ensures { λ r. ⌜ Counts r (now (out .exit)) ⌝ }
+{
+    let reported = report::report(&buffer[..count], out);
+    if reported.number == 0 {
+        return reported.length;
+    }
+    report::put_refusal(reported.number, reported.line, out)
+}
 
 // Reads, reports and writes; what fails is said on standard error.
 fn main() {
@@ -15,8 +35,8 @@ fn main() {
         os::fail(b"takedown: reading standard input");
         return;
     }
-    let mut out = [0u8; 4096];
-    let size = report::report(&text[..input.count], &mut out);
+    let mut out = [0u8; report::ROOM];
+    let size = put_printed(&text, input.count, &mut out);
     if !io::write_all(STDOUT_FILENO, &out[..size]) {
         os::fail(b"takedown: writing standard output");
     }

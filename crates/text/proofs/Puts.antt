@@ -7,10 +7,11 @@ use Prim.Native.Nat.{ℕ, suc, _+_, _≤_}
 use native.Mathlib.Nat.{add-zero, zero-add}
 use native.Mathlib.Omega.{arith}
 use lib.ListN.{length, set, take, drop, length-append}
-use lib.Seq.{sets, sets-eq, length-sets, take-at, drop-at}
+use lib.Seq.{sets, sets-eq, length-sets, length-take-le, take-at, drop-at}
 use borrow.Author.Tests.{le-leb}
+use Rattle.io.specs.Counts.{Counts}
 use Rattle.text.specs.Text.{joined}
-use Rattle.text.specs.Put.{fits, Out, out, putOne, puts}
+use Rattle.text.specs.Put.{fits, Out, out, putOne, puts, fronted}
 
 -- some texts, then others after them
 pub puts-then : {b d : List ℕ} {j k : ℕ} (l : List ℕ) (i : ℕ) (vs ws : List (List ℕ)) → out b j ≡ puts l i vs → out d k ≡ puts b j ws → out d k ≡ puts l i (vs ++ ws)
@@ -50,22 +51,30 @@ puts-fit (v ∷ vs) l i room =
     rw (le-leb (i + length v) (length l) (omega arith))
     (puts-fit vs (sets l i v) (i + length v) (omega (arith, length-sets l i v)) ∙ rw (n, sets-append v (joined vs) l i))
 
--- texts that find room from the front on: how far they reach, what then stands there, and the rest as it was
+-- texts that find room from the front on: how far they reach, and the whole buffer then
 pub record Front (l : List ℕ) (text after : List ℕ) (end : ℕ) : Type 0 where
   pub ends : end ≡ length text
-  pub taken : take end after ≡ text
-  pub left : drop end after ≡ drop end l
-  pub inside : end ≤ length after
+  pub is : after ≡ fronted text l
+  pub counts : Counts end after
 
 pub puts-front : {l after : List ℕ} {end : ℕ} (vs : List (List ℕ)) → out after end ≡ puts l 0 vs → length (joined vs) ≤ length l → Front l (joined vs) after end
+unfolding fronted
 puts-front {l} {after} {end} vs p room =
     let t = joined vs in
     let e : out after end ≡ out (sets l 0 t) (0 + length t) = p ∙ puts-fit vs l 0 (omega arith) in
     let n : end ≡ length t = ap (λ (o : Out). o .end) e ∙ zero-add (length t) in
-    let b : after ≡ t ++ drop end l = ap (λ (o : Out). o .buffer) e ∙ (sets-eq t l 0 (omega arith) ∙ ap (λ (k : ℕ). t ++ drop k l) (zero-add (length t) ∙ sym n)) in
+    let most : end ≤ length after = omega (arith, puts-length l 0 vs p) in
     record {
       ends = n;
-      taken = ap (take end) b ∙ take-at t (drop end l) end (sym n);
-      left = ap (drop end) b ∙ drop-at t (drop end l) end (sym n);
-      inside = omega (arith, puts-length l 0 vs p);
+      is = ap (λ (o : Out). o .buffer) e ∙ (sets-eq t l 0 (omega arith) ∙ ap (λ (k : ℕ). t ++ drop k l) (zero-add (length t)));
+      counts = (most, sym (length-take-le end after most));
     }
+
+-- the text at the front of a buffer is what its first bytes are, and the others are as they were
+pub fronted-take : (t l : List ℕ) → take (length t) (fronted t l) ≡ t
+unfolding fronted
+fronted-take t l = take-at t (drop (length t) l) (length t) refl
+
+pub fronted-drop : (t l : List ℕ) → drop (length t) (fronted t l) ≡ drop (length t) l
+unfolding fronted
+fronted-drop t l = drop-at t (drop (length t) l) (length t) refl

@@ -1,10 +1,10 @@
 -- Texts put into a lent buffer.
 -- Assumes nothing.
 use mathlib.Core.Bool.{Bool, cond}
-use mathlib.Core.List.{List, [], _∷_}
+use mathlib.Core.List.{List, [], _∷_, _++_}
 use Prim.Native.Nat.{ℕ, _+_}
 use lib.Dec.{leb}
-use lib.ListN.{length}
+use lib.ListN.{length, drop}
 use lib.Seq.{sets}
 
 -- a buffer, and the index after what was put
@@ -27,3 +27,7 @@ putOne buffer at text = cond (fits buffer at text) (out (sets buffer at text) (a
 unfoldable pub puts : List ℕ → ℕ → List (List ℕ) → Out
 puts buffer at [] = out buffer at
 puts buffer at (t ∷ ts) = let o = putOne buffer at t in puts (o .buffer) (o .end) ts
+
+-- a buffer with a text at its front, and the rest as it was; all of it as it was where the text is empty
+unfoldable pub fronted : List ℕ → List ℕ → List ℕ
+fronted text buffer = text ++ drop (length text) buffer

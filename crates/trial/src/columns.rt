@@ -4,7 +4,7 @@ ghost use Rattle.column.specs.Column.{Reached};
 use crate::print;
 use column::Column;
 use column::Line;
-use figure::Asked;
+use error_bound::AfterList;
 use member::TributaryArea;
 
 // Room for the numbers of 300 entries.
@@ -93,16 +93,17 @@ fn left(count: usize, off: u64) -> usize
     count - off as usize
 }
 
-// What asking at a floor gives after the first so many numbers of a list.
-fn asked_after(code: u64, numbers: [u64; ROOM], end: usize, floor: u64) -> Asked
+// What asking at a floor gives after the first so many numbers of a list, and which entries were refused.
+fn asked_after(code: u64, numbers: [u64; ROOM], end: usize, floor: u64) -> AfterList
     requires { ⌜ end ≤ 1200 ⌝ }
 {
     error_bound::figure_after(code, &numbers[..end], floor)
 }
 
-// Asks at a floor after the whole list of numbers, of which the last few are left off.
+// Asks at a floor after the whole list of numbers, of which the last few are left off; tells too which entries
+// were refused.
 pub fn list(state: State, floor: u64, off: u64) {
     let numbers = state.numbers;
     let end = left(state.count, off);
-    print::print_asked(asked_after(state.code, numbers, end, floor));
+    print::print_after(asked_after(state.code, numbers, end, floor));
 }

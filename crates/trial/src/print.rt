@@ -1,4 +1,5 @@
 // Prints answers to standard output, a line each.
+use error_bound::AfterList;
 use figure::Asked;
 use libc::STDOUT_FILENO;
 use refusal::Answer;
@@ -39,8 +40,8 @@ pub fn print_number(number: u64) {
     end_line();
 }
 
-// Prints n, X and the figure, or the number of the refusal, and ends the line.
-pub fn print_asked(asked: Asked) {
+// Prints n, X and the figure, or the number of the refusal.
+fn print_working(asked: Asked) {
     match asked {
         Asked::Gives(working) => {
             print(b"floors=", working.floors);
@@ -49,5 +50,20 @@ pub fn print_asked(asked: Asked) {
         }
         Asked::Refused(number) => print_refused(number),
     }
+}
+
+// Prints what asking at a floor gave, and ends the line.
+pub fn print_asked(asked: Asked) {
+    print_working(asked);
+    end_line();
+}
+
+// Prints what asking after a list gave and which of its entries were refused, and ends the line.
+pub fn print_after(answer: AfterList) {
+    let asked = answer.asked;
+    print_working(asked);
+    print(b" refusals=", answer.refusals.count);
+    print(b" first=", answer.refusals.number);
+    print(b" place=", answer.refusals.place);
     end_line();
 }

@@ -1,5 +1,6 @@
 // Prints the report of each sheet of standard input, and then the part that is refused. Before each
 // sheet stands a line `sheet` and the number of its bytes. Its stored output is the second reckoning's.
+ghost use Rattle.io.specs.Counts.{Counts};
 use libc::STDERR_FILENO;
 use libc::STDIN_FILENO;
 use libc::STDOUT_FILENO;
@@ -18,10 +19,21 @@ fn write_number(name: &[u8], n: usize) {
     io::print_decimal(STDOUT_FILENO, n as u64);
 }
 
+// Puts all that takedown prints for a sheet, and gives how many bytes that is.
+fn put_printed(text: &[u8], out: &mut [u8; report::ROOM]) -> usize
+    ensures { λ r. ⌜ Counts r (now (out .exit)) ⌝ }
+{
+    let reported = report::report(text, out);
+    if reported.number == 0 {
+        return reported.length;
+    }
+    report::put_refusal(reported.number, reported.line, out)
+}
+
 // Prints the report of a sheet, and then where the part that is refused starts and ends, and the part.
 fn answer(text: &[u8]) {
-    let mut out = [0u8; 4096];
-    let size = report::report(text, &mut out);
+    let mut out = [0u8; report::ROOM];
+    let size = put_printed(text, &mut out);
     write(&out[..size]);
     let reading = sheet::read(text);
     write_number(b"start=", reading.start);

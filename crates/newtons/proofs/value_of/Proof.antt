@@ -13,8 +13,9 @@ use mir.Val.{SFits, toZ}
 use mir.ValLaws.{toZ-ofZ, toZ-pos}
 use borrow.Author.Needs.{needs}
 use borrow.Author.Tests.{le-leb, lt-leb}
-use Rattle.newtons.specs.declared.Held.the-variants.{Whole}
-use Rattle.newtons.specs.Effect.{signed}
+use Rattle.refusal.specs.Refusal.{numberOf}
+use Rattle.refusal.specs.Said.{gives}
+use Rattle.newtons.specs.Effect.{signed, itself, saidHeld}
 use Rattle.newtons.proofs.Values.{Is, Fields, fields-of, not-nan, nan-value, zero-value, below-one, infinite, large-value, large-size, fraction-value, whole-value}
 use Rattle.newtons.proofs.Limits.{held-none, held-large, held-whole, held-signed}
 use Rattle.newtons.proofs.value_of.Statement.{statement}
@@ -55,25 +56,30 @@ negative-fits n h = subst (λ (z : ℤ). SFits w64 z) (sym (negative-is n h)) (g
     go (suc n) h = record { sfits = omega (arith, h) }
 
 returns : tie.Need-returns
+unfolding saidHeld numberOf
 returns c = sym (held-none (nan-value (c .before .args .x) (c .if1 .taken)))
 
 float-to-bits-bits : tie.Need-float-to-bits-bits
 float-to-bits-bits c = not-nan (c .before .args .x) (c .if1 .left)
 
 returns-2 : tie.Need-returns-2
+unfolding saidHeld numberOf
 returns-2 c =
     let s = c .before .before in
     sym (held-whole (zero-value (fields s) (omega (arith, c .if2 .taken)) (omega (arith, c .if2 .taken))) (lit< tt))
 
 returns-3 : tie.Need-returns-3
+unfolding saidHeld numberOf
 returns-3 c =
     let s = c .before .before .before in
     sym (held-none (below-one (fields s) (not-zero (bits s) (c .before .if2 .left)) (c .if3 .taken)))
 
 returns-4 : tie.Need-returns-4
+unfolding saidHeld numberOf
 returns-4 c = sym (held-none (infinite (fields (c .before .before .before .before)) (c .if4 .taken)))
 
 returns-5 : tie.Need-returns-5
+unfolding saidHeld numberOf
 returns-5 c =
     let s = c .before .before .before .before .before in
     sym (held-large (large-value (fields s) (c .if5 .taken) (c .before .if4 .left)) (large-size _ _ (omega (arith, c .if5 .taken))))
@@ -105,6 +111,7 @@ module _ (c : tie.Else5) where
   one = one-is (1075 - exponent) (omega (arith, c .before .before .if3 .left))
 
 returns-6 : tie.Need-returns-6
+unfolding saidHeld numberOf
 returns-6 c = let d = c .before in sym (held-none (fraction-value (fields (start d)) (above d) (upto d) (one d) (λ q. omega (arith, c .if6 .taken))))
 
 -- the size is whole, and below 2^53
@@ -131,19 +138,19 @@ sub-t11 : tie.Need-sub-t11
 sub-t11 c = negative-fits _ (small (c .before))
 
 returns-7 : tie.Need-returns-7
-unfolding signed
+unfolding signed saidHeld
 returns-7 c =
     let l = small (c .before) in
-    ap Whole (toZ-ofZ w64 _ (negative-fits _ l) ∙ negative-is _ l) ∙ sym (held-signed (is (c .before)) l true (le-leb _ _ (c .if7 .taken)))
+    ap (λ (z : ℤ). gives (itself z)) (toZ-ofZ w64 _ (negative-fits _ l) ∙ negative-is _ l) ∙ sym (held-signed (is (c .before)) l true (le-leb _ _ (c .if7 .taken)))
 
 cast-t12 : tie.Need-cast-t12
 cast-t12 c = size-fits (c .before)
 
 returns-8 : tie.Need-returns-8
-unfolding signed
+unfolding signed saidHeld
 returns-8 c =
     let l = small (c .before) in
-    ap Whole (positive-is _ l) ∙ sym (held-signed (is (c .before)) l false (lt-leb _ _ (c .if7 .left)))
+    ap (λ (z : ℤ). gives (itself z)) (positive-is _ l) ∙ sym (held-signed (is (c .before)) l false (lt-leb _ _ (c .if7 .left)))
 
 pub value-of-spec : {M : Type 1} → statement M
 value-of-spec =

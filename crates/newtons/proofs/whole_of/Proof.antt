@@ -9,7 +9,7 @@ use mir.ValLaws.{toZ-ofZ}
 use Rattle.refusal.specs.Refusal.{numberOf}
 use Rattle.refusal.specs.Said.{gives, refused}
 use Rattle.newtons.specs.declared.Held.{Held}
-use Rattle.newtons.specs.Effect.{within, effectOf, saidEffect}
+use Rattle.newtons.specs.Effect.{saidHeld, within, effectOf, saidEffect}
 use Rattle.newtons.proofs.Limits.{limitedHeld, effect-held}
 use borrow.Author.Needs.{needs}
 use Rattle.newtons.proofs.whole_of.Statement.{statement}
@@ -25,8 +25,8 @@ is-within-requires : tie.Need-is-within-requires
 is-within-requires c κs = search needs
 
 -- the effect is told by what the value is handed on as
-decides : (c : tie.After-value-of) {v : Held} → c .value-of .result ≡ v → limitedHeld (c .before .args .x) v ≡ effectOf (c .before .args .x)
-decides c e = ap (limitedHeld (c .before .args .x)) (sym e) ∙ (ap (limitedHeld (c .before .args .x)) (c .value-of .ensures) ∙ sym (effect-held (c .before .args .x)))
+decides : (c : tie.After-value-of) {v : Held} → c .value-of .result ≡ v → limitedHeld (c .before .args .x) (saidHeld v) ≡ effectOf (c .before .args .x)
+decides c e = ap (λ (h : Held). limitedHeld (c .before .args .x) (saidHeld h)) (sym e) ∙ (ap (limitedHeld (c .before .args .x)) (c .value-of .ensures) ∙ sym (effect-held (c .before .args .x)))
 
 -- where it is a whole number the limit decides
 module _ (c : tie.After-is-within) where
@@ -43,7 +43,7 @@ module _ (c : tie.After-is-within) where
   tested = ap within (sym same) ∙ sym (c .is-within .ensures)
 
   limits : cond (within newtons) (gives newtons) (refused 9 x) ≡ effectOf x
-  unfolding limitedHeld
+  unfolding limitedHeld saidHeld
   limits = decides (c .before .before .before .before) (c .before .before .newtons .given .1)
 
 returns : tie.Need-returns
@@ -61,11 +61,11 @@ unfolding saidEffect numberOf
 returns-2 c = rw (tested (c .before) ∙ c .if1 .left) at (limits (c .before))
 
 returns-3 : tie.Need-returns-3
-unfolding saidEffect numberOf limitedHeld
+unfolding saidEffect numberOf limitedHeld saidHeld
 returns-3 c = decides (c .before .before) (c .enum-told .given .1)
 
 returns-4 : tie.Need-returns-4
-unfolding saidEffect numberOf limitedHeld
+unfolding saidEffect numberOf limitedHeld saidHeld
 returns-4 c = decides (c .before .before) (c .enum-told2 .given .1)
 
 pub whole-of-spec : {M : Type 1} → statement M

@@ -3,7 +3,7 @@ use mathlib.Core.Path.{_≡_, refl}
 use mathlib.Core.Bool.{Bool, true, false}
 use native.Mathlib.Omega.{arith}
 use Rattle.refusal.specs.Refusal.{numberOf}
-use Rattle.refusal.specs.Said.{said}
+use Rattle.refusal.specs.Said.{saidAnswer}
 use Rattle.member.specs.Between.{between}
 use Rattle.member.specs.Line.{isFormula}
 use Rattle.reduction.specs.Reduced.{reducedOf}
@@ -35,18 +35,18 @@ is-between-requires : tie.Need-is-between-requires
 is-between-requires c κs = search needs
 
 returns : tie.Need-returns
-unfolding said numberOf reducedOf
+unfolding saidAnswer numberOf reducedOf
 returns c = λ x. rw (failed (c .before .is-between .ensures) (c .if1 .taken))
 
 is-between-requires-2 : tie.Need-is-between-requires-2
 is-between-requires-2 c κs = search needs
 
 returns-2 : tie.Need-returns-2
-unfolding said numberOf reducedOf
+unfolding saidAnswer numberOf reducedOf
 returns-2 c = λ x. rw (class-known (c .before .before), failed (c .before .is-between2 .ensures) (c .if2 .taken))
 
 other-twentieths-requires : tie.Need-other-twentieths-requires
-other-twentieths-requires c κs = search needs
+other-twentieths-requires c κs = class-known (c .before .before)
 
 twentieths-of-requires : tie.Need-twentieths-of-requires
 twentieths-of-requires c κs =
@@ -54,7 +54,7 @@ twentieths-of-requires c κs =
     (rw (c .other-twentieths .ensures) (other-within (s .args .class) (s .args .floors) .1), limits 1 50000 (s .args .load) (load-known (c .before)) .1)
 
 returns-3 : tie.Need-returns-3
-unfolding said reducedOf
+unfolding saidAnswer reducedOf
 returns-3 c = λ x.
     let e = c .before .before in
     let at = e .before .before .before .before .args in

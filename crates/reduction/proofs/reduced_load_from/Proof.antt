@@ -3,7 +3,7 @@ use mathlib.Core.Path.{_≡_, sym, _∙_, subst⁻¹}
 use mathlib.Core.Bool.{true, false≢true}
 use Prim.Native.Nat.{_≤_}
 use native.Mathlib.Omega.{arith}
-use Rattle.refusal.specs.Said.{said}
+use Rattle.refusal.specs.Said.{saidAnswer}
 use Rattle.reduction.specs.declared.share.Share.{Share}
 use Rattle.member.specs.Line.{isFormula}
 use Rattle.member.specs.Between.{between}
@@ -69,7 +69,7 @@ rounded-requires c κs =
     (subst⁻¹ (λ (s : Share). Fit s (at .load)) (share-known f) fits, c .scale-from .ensures)
 
 returns-3 : tie.Need-returns-3
-unfolding said reducedOf
+unfolding saidAnswer reducedOf
 returns-3 c =
     let f = c .before .before in
     rw (class-known (f .before), load-known (f .before), c .rounded .ensures, share-known f)

@@ -2,7 +2,7 @@
 use mathlib.Core.Path.{sym, _∙_, ap}
 use Prim.Native.Nat.{ℕ}
 use Rattle.refusal.specs.declared.Answer.{Answer}
-use Rattle.refusal.specs.Said.{refused, said, nothing}
+use Rattle.refusal.specs.Said.{refused, saidAnswer, nothing}
 use Rattle.exports.specs.Exported.{shownReduced}
 use borrow.Author.Needs.{needs}
 use Rattle.exports.proofs.reductions.bungero_reduced_load.Statement.{statement}
@@ -21,14 +21,14 @@ number-requires : tie.Need-number-requires
 number-requires c κs = search needs
 
 returns : tie.Need-returns
-unfolding shownReduced said
-returns c = ap (λ (a : Answer). shownReduced (said a)) (sym (c .before .answer .given .1)) ∙ ap shownReduced (c .before .before .before .reduced-load .ensures)
+unfolding shownReduced saidAnswer
+returns c = ap (λ (a : Answer). shownReduced (saidAnswer a)) (sym (c .before .answer .given .1)) ∙ ap shownReduced (c .before .before .before .reduced-load .ensures)
 
 returns-2 : tie.Need-returns-2
-unfolding shownReduced said
+unfolding shownReduced saidAnswer
 returns-2 c =
     ap (λ (n : ℕ). shownReduced (refused n nothing)) (c .number .ensures)
-    ∙ (ap (λ (a : Answer). shownReduced (said a)) (sym (c .before .before .answer2 .given .1)) ∙ ap shownReduced (c .before .before .before .before .reduced-load .ensures))
+    ∙ (ap (λ (a : Answer). shownReduced (saidAnswer a)) (sym (c .before .before .answer2 .given .1)) ∙ ap shownReduced (c .before .before .before .before .reduced-load .ensures))
 
 pub bungero-reduced-load-spec : {M : Type 1} → statement M
 bungero-reduced-load-spec =

@@ -1,15 +1,24 @@
 -- `figure::at_floor::asked_at` meets its contract: each way out picks its case of the definition. Assumes nothing.
-use mathlib.Core.Path.{refl, subst⁻¹}
+use mathlib.Core.Path.{_≡_, refl, _∙_, subst⁻¹}
+use mathlib.Core.Bool.{true}
+use mathlib.Core.List.{List}
+use Prim.Native.Nat.{ℕ}
 use native.Mathlib.Omega.{arith}
 use borrow.Author.Tests.{lt-ltb}
+use Rattle.lists.specs.Lists.{total}
 use Rattle.refusal.specs.Refusal.{numberOf}
+use Rattle.refusal.specs.Said.{gives}
+use Rattle.column.specs.declared.Line.{Line}
+use Rattle.column.specs.declared.Member.{Member}
 use Rattle.column.specs.Column.{linesOf}
 use Rattle.column.specs.Sound.{Held, linesBefore}
 use Rattle.column.proofs.Reach.{sound}
-use Rattle.figure.specs.Carried.{influenceOf}
+use Rattle.figure.specs.Carried.{carried, hasFloor, floorsOf, influenceFrom, influenceOf}
 use Rattle.figure.specs.Figure.{figureOf}
 use Rattle.figure.specs.Asked.{workingOf, askedOf, saidWorking}
-use Rattle.figure.specs.Rates.{sharesAt, Shared}
+use Rattle.figure.specs.declared.rates.Shares.{Shares}
+use Rattle.figure.specs.Totals.{formulaArea}
+use Rattle.figure.specs.Rates.{sharesAt, Shared, figureBy}
 use Rattle.figure.proofs.Carried.{area-total}
 use Rattle.figure.proofs.Order.{reached-ordered}
 use Rattle.figure.proofs.HeldLines.{held-before, order-before}
@@ -50,14 +59,23 @@ figure-between-requires : tie.Need-figure-between-requires
 unfolding sharesAt
 figure-between-requires c κs = (places-known (c .before .before .before .before .before), omega arith, subst⁻¹ Shared (c .before .shares-at .ensures) refl)
 
+-- what was counted and summed of the lines carried is what asking gives
+summed : (m : Member) (ls front : List Line) (f : ℕ) (s : Shares) {n area figure : ℕ} → hasFloor f ls ≡ true → carried f ls ≡ front
+    → n ≡ floorsOf front → area ≡ total formulaArea front → s ≡ sharesAt n (influenceFrom m area) → figure ≡ total (figureBy s) front
+    → gives (record { floors = n; influence = s .influence; figure = figure }) ≡ askedOf m ls f
+unfolding askedOf workingOf figureOf influenceOf sharesAt
+summed m ls front f s has front-is floors area shares figure = rw (has, front-is, area-total front, figure) (rw (shares, area, floors))
+
 returns-2 : tie.Need-returns-2
-unfolding saidWorking askedOf workingOf figureOf influenceOf linesOf sharesAt
+unfolding saidWorking linesOf
 returns-2 c =
     let at = c .before .before .before .before .before .before in
     let end = at .lines-at in
-    let area = area-total (linesBefore (at .before .args .held .now) (end .result)) in
-    rw (end .ensures .has, lt-ltb 0 (end .result) (omega arith), end .ensures .carries (omega arith), area, c .figure-between .ensures .is)
-    (rw (c .before .before .shares-at .ensures, c .before .before .before .area-between .ensures .is, c .before .before .before .before .floors-before .ensures))
+    let here = c .before .before in
+    let places = at .before .args .held .now in
+    summed (at .before .args .member) (linesBefore places (at .before .args .count)) (linesBefore places (end .result)) (at .before .args .floor) (here .shares-at .result)
+    (end .ensures .has ∙ lt-ltb 0 (end .result) (omega arith)) (end .ensures .carries (omega arith)) (here .before .before .floors-before .ensures) (here .before .area-between .ensures .is)
+    (here .shares-at .ensures) (c .figure-between .ensures .is)
 
 pub asked-at-spec : {M : Type 1} → statement M
 asked-at-spec =

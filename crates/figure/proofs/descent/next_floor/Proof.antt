@@ -37,14 +37,14 @@ shares-at-requires c κs = search needs
 figure-before-requires : tie.Need-figure-before-requires
 unfolding sharesAt
 figure-before-requires c κs =
-    let e = c .before .before .before .before .floor-end .ensures in
-    let d = c .before .before .before .before .before .before .pre .0 in
+    let e = c .before .before .before .before .before .floor-end .ensures in
+    let d = c .before .before .before .before .before .before .before .pre .0 in
     let here = c .shares-at .ensures in
     (held-before (d .sound .held) _ (e .few), d .figure, omega (arith, e .low), shared-at _ _ (d .shares), shared-at _ _ here, omega (arith, ap (λ (t : Shares). t .floors) here))
 
 returns : tie.Need-returns
 returns c =
-    let area = c .before .before .before .before in
+    let area = c .before .before .before .before .before in
     let e = area .before .floor-end .ensures in
     let s = area .before .before .before in
     let d = s .pre .0 in

@@ -1,6 +1,6 @@
 -- `figure::rates::shares_at` meets its contract. Assumes nothing.
 use native.Mathlib.Omega.{arith}
-use Rattle.reduction.proofs.Shares.{other-within}
+use Rattle.reduction.proofs.Shares.{heavy-within}
 use Rattle.reduction.proofs.Twentieths.{clamped-most}
 use Rattle.figure.specs.Rates.{twentiethsRate, sharesAt}
 use borrow.Author.Needs.{needs}
@@ -16,18 +16,18 @@ clamped-twentieths-requires c κs = search needs
 formula-rate-requires : tie.Need-formula-rate-requires
 formula-rate-requires c κs = rw (c .clamped-twentieths .ensures) (clamped-most _ _)
 
-other-twentieths-requires : tie.Need-other-twentieths-requires
-other-twentieths-requires c κs = search needs
+heavy-twentieths-requires : tie.Need-heavy-twentieths-requires
+heavy-twentieths-requires c κs = search needs
 
 mul-t8 : tie.Need-mul-t8
-mul-t8 c = omega (arith, c .other-twentieths .ensures, other-within 2 (c .before .before .before .before .args .floors))
+mul-t8 c = omega (arith, c .heavy-twentieths .ensures, heavy-within (c .before .before .before .before .args .floors))
 
 returns : tie.Need-returns
 unfolding sharesAt twentiethsRate
 returns c =
     let f = c .before in
     let k = f .before in
-    rw (c .other-twentieths .ensures, f .formula-rate .ensures, k .clamped-twentieths .ensures, k .before .influence-of .ensures)
+    rw (c .heavy-twentieths .ensures, f .formula-rate .ensures, k .clamped-twentieths .ensures, k .before .influence-of .ensures)
 
 pub shares-at-spec : {M : Type 1} → statement M
 shares-at-spec =
@@ -36,6 +36,6 @@ shares-at-spec =
     influence-of-requires
     clamped-twentieths-requires
     formula-rate-requires
-    other-twentieths-requires
+    heavy-twentieths-requires
     mul-t8
     returns)

@@ -27,20 +27,21 @@ formula-area-requires c κs = let s = c .before .before .before in held-at (s .p
 
 add-area : tie.Need-add-area Inv-loop μ-loop
 add-area c =
-    let loop = c .before .before .before in
-    omega (arith, c .formula-area .ensures .1, loop .loop .inv .2 .most, loop .before .pre .0 .few)
+    let loop = c .before .before .before .before in
+    omega (arith, c .before .formula-area .ensures .1, loop .loop .inv .2 .most, loop .before .pre .0 .few)
 
 add-i : tie.Need-add-i Inv-loop μ-loop
-add-i c = omega (arith, c .before .before .before .before .pre .0 .few)
+add-i c = omega (arith, c .before .before .before .before .before .pre .0 .few)
 
 loop-less : tie.Need-loop-less Inv-loop μ-loop
 loop-less c = omega arith
 
 loop-again : tie.Need-loop-again Inv-loop μ-loop
 loop-again c =
-    let loop = c .before .before .before in
+    let loop = c .before .before .before .before in
     let l = loop .loop in
-    (omega arith, omega arith, sum-next (l .inv .0) (omega (arith, room (loop .before .pre .0))) (l .inv .2) (c .formula-area .ensures .0) (c .formula-area .ensures .1))
+    let e = c .before .formula-area .ensures in
+    (omega arith, omega arith, sum-next (l .inv .0) (omega (arith, room (loop .before .pre .0))) (l .inv .2) (e .0) (e .1))
 
 returns : tie.Need-returns Inv-loop μ-loop
 returns c =

@@ -16,9 +16,9 @@ line-of-requires c κs = search needs
 returns : tie.Need-returns
 unfolding formulaArea
 returns c =
-    let t = c .before .before in
-    let is = ap (λ (l : Line). l .area .0) (c .line-of .ensures) in
-    (rw (sym (t .is-formula .ensures) ∙ c .before .if1 .taken) is, rw is (t .before .pre .area .1))
+    let t = c .before .before .before in
+    let is = ap (λ (l : Line). l .area .0) (c .before .line-of .ensures) in
+    (rw (sym (t .is-formula .ensures) ∙ c .before .before .if1 .taken) is, rw is (t .before .pre .area .1))
 
 returns-2 : tie.Need-returns-2
 unfolding formulaArea

@@ -4,7 +4,9 @@ use Prim.Native.Nat.{ℕ, _+_, _/_}
 use Rattle.text.proofs.Puts.{puts-then}
 use Rattle.figure.proofs.Lowest.{lowest-most}
 use Rattle.sheet.specs.declared.Sheet.{Sheet}
+use Rattle.column.specs.Column.{columnFrom}
 use Rattle.report.specs.Report.{liveOf, effectsOf, takedownOf}
+use Rattle.report.specs.Table.{sheetFrom}
 use Rattle.report.proofs.Table.{table-lines}
 use borrow.Author.Needs.{needs}
 use Rattle.report.proofs.takedown.put_takedown.Statement.{statement}
@@ -12,10 +14,10 @@ use Rattle.report.proofs.takedown.put_takedown.Tie as tie
 
 -- where the walk began, and the sheet that is printed
 abbrev start : tie.After-work-out → tie.Start
-start w = w .before .before .before .before .before .before .before .before
+start w = w .before .before .before
 
 abbrev sheet : tie.Start → Sheet
-sheet s = s .args .sheet
+sheet s = sheetFrom (columnFrom (s .args .member) (s .args .count) (s .args .held .now)) (s .args .effects)
 
 -- the figure at the lowest floor in newtons is the live effect
 live-known : (c : tie.After-live-effect) → c .live-effect .result ≡ liveOf (sheet (start (c .before)) .column)
