@@ -1,19 +1,23 @@
 // The benchmark: the proved static library beside plain Rust, on the same inputs, checked to agree and then timed;
 // with --check only checked.
 mod agree;
+#[path = "../tests/beside.rs"]
+mod beside;
 #[path = "../bindings/bungero.rs"]
 mod bungero;
 mod inputs;
+#[allow(dead_code)]
+#[path = "../plain/mod.rs"]
 mod plain;
+#[allow(dead_code)]
 mod random;
 mod timing;
 
-use inputs::Reducible;
+use inputs::{Reducible, Work, GROWTH};
 use plain::column::{figure_of, Column, Entry};
 use plain::combination::combine;
 use plain::reduction::reduced_load;
 use plain::report::report;
-use random::Random;
 use std::hint::black_box;
 use timing::{head, measure, Job};
 
@@ -22,9 +26,9 @@ fn keep<T>(answer: &T) {
     black_box(answer);
 }
 
-// An entry as the record that the library takes.
-fn record(entry: &Entry) -> bungero::Line {
-    bungero::Line { floor: entry.floor, use_class: entry.class, load: entry.load, area: entry.area }
+// Entries as the records that the library takes.
+fn records(entries: &[Entry]) -> Vec<bungero::Line> {
+    entries.iter().map(|&entry| entry.into()).collect()
 }
 
 // A proved interior column with these lines.
@@ -47,7 +51,6 @@ fn plain_filled(entries: &[Entry]) -> Column {
 
 // The reduced load of each of some lines.
 fn reduced_load_job(what: &str, lines: Vec<Reducible>) -> Job {
-    lines.iter().copied().for_each(agree::check_reduced_load);
     let same = lines.clone();
     let proved = move || {
         for line in &same {
@@ -67,7 +70,7 @@ fn reduced_load_job(what: &str, lines: Vec<Reducible>) -> Job {
 
 // Entering lines on a fresh column.
 fn entering_job(what: &str, entries: Vec<Entry>) -> Job {
-    let records: Vec<_> = entries.iter().map(record).collect();
+    let records = records(&entries);
     let proved = move || keep(&proved_filled(black_box(&records)));
     let plain = move || keep(&plain_filled(black_box(&entries)));
     Job::new(what, 1, proved, plain)
@@ -75,9 +78,8 @@ fn entering_job(what: &str, entries: Vec<Entry>) -> Job {
 
 // The figure of a list at its last floor.
 fn list_job(what: &str, entries: Vec<Entry>) -> Job {
-    let records: Vec<_> = entries.iter().map(record).collect();
+    let records = records(&entries);
     let floor = entries.last().unwrap().floor;
-    agree::check_list(1, &entries, floor);
     let proved = move || keep(&bungero::figure_of(1, black_box(&records), black_box(floor)));
     let plain = move || keep(&figure_of(1, black_box(&entries), black_box(floor)));
     Job::new(what, 1, proved, plain)
@@ -85,10 +87,8 @@ fn list_job(what: &str, entries: Vec<Entry>) -> Job {
 
 // Asking at the last floor of a column with these lines.
 fn asking_job(what: &str, entries: Vec<Entry>) -> Job {
-    let records: Vec<_> = entries.iter().map(record).collect();
     let floor = entries.last().unwrap().floor;
-    let (column, same) = (proved_filled(&records), plain_filled(&entries));
-    agree::check_column(&column, &same);
+    let (column, same) = (proved_filled(&records(&entries)), plain_filled(&entries));
     let proved = move || keep(&black_box(&column).ask(black_box(floor)));
     let plain = move || keep(&black_box(&same).ask(black_box(floor)));
     Job::new(what, 1, proved, plain)
@@ -96,7 +96,6 @@ fn asking_job(what: &str, entries: Vec<Entry>) -> Job {
 
 // A whole take-down, from the text to the report in a lent buffer.
 fn takedown_job(what: &str, text: Vec<u8>) -> Job {
-    agree::check_sheet(&text);
     let same = text.clone();
     let mut room = [0; bungero::REPORT_ROOM];
     let proved = move || {
@@ -114,7 +113,6 @@ fn takedown_job(what: &str, text: Vec<u8>) -> Job {
 
 // Combining seven effects.
 fn combining_job(what: &str, effects: Vec<[f64; 7]>) -> Job {
-    effects.iter().for_each(agree::check_combination);
     let records: Vec<bungero::Effects> = effects.iter().map(|&doubles| doubles.into()).collect();
     let proved = move || records.iter().for_each(|effects| keep(&bungero::combine(*black_box(effects))));
     let calls = effects.len();
@@ -122,43 +120,42 @@ fn combining_job(what: &str, effects: Vec<[f64; 7]>) -> Job {
     Job::new(what, calls, proved, plain)
 }
 
-// Times jobs of every kind.
-fn time_jobs() {
-    let mut random = Random(1);
-    let mut jobs = [
-        reduced_load_job("reduced load, root share", inputs::root_shares(&mut random, 4_096)),
-        reduced_load_job("reduced load, all shares of formula lines", inputs::all_shares(&mut random, 4_096)),
-        entering_job("open and enter 256 lines", inputs::formula_lines(64, 150)),
-        list_job("list call, 256 lines, at the last floor", inputs::formula_lines(64, 150)),
-        asking_job("ask, 256 lines, root share", inputs::formula_lines(64, 150)),
-        asking_job("ask, 256 lines, least share", inputs::formula_lines(64, 200_000)),
-        asking_job("ask, 256 lines, mixed classes", inputs::mixed_lines()),
-        takedown_job("take-down, the paper's sample (2 lines)", inputs::SAMPLE.to_vec()),
-        takedown_job("take-down, office (60 lines, 20 floors)", inputs::office()),
-        takedown_job("take-down, largest (256 lines, 64 floors)", inputs::largest()),
-        combining_job("combine seven effects", inputs::effects(&mut random, 256)),
-    ];
+// A job on its input.
+fn job(what: &str, work: Work) -> Job {
+    match work {
+        Work::Reducing(lines) => reduced_load_job(what, lines),
+        Work::Entering(entries) => entering_job(what, entries),
+        Work::Listing(entries) => list_job(what, entries),
+        Work::Asking(entries) => asking_job(what, entries),
+        Work::TakingDown(text) => takedown_job(what, text),
+        Work::Combining(effects) => combining_job(what, effects),
+    }
+}
+
+// Jobs that have been timed.
+fn timed(works: Vec<(String, Work)>) -> Vec<Job> {
+    let mut jobs: Vec<Job> = works.into_iter().map(|(what, work)| job(&what, work)).collect();
     measure(&mut jobs);
-    println!("{}", head("").trim_end());
+    jobs
+}
+
+// Times jobs of every kind.
+fn time_jobs(works: Vec<(String, Work)>) {
+    let mut jobs = timed(works);
+    println!("\n{}", head("").trim_end());
     jobs.iter_mut().for_each(|job| println!("{}", job.row()));
 }
 
-// Times take-downs of ever more floors, four lines a floor.
-fn time_growth() {
-    let floors = [1, 2, 4, 8, 16, 32, 64];
-    let mut jobs = floors.map(|floors| {
-        let entries = inputs::formula_lines(floors, 150);
-        let text = inputs::sheet(&entries, [3_250_000, 48_000, 36_000, 12_000, -410_000, 730_000]);
-        takedown_job(&format!("{floors:5} floors, {:3} lines", entries.len()), text)
-    });
-    measure(&mut jobs);
+// Times take-downs of ever more floors.
+fn time_growth(works: Vec<(String, Work)>) {
+    let jobs = timed(works);
     println!("\n{}   proved ns / (floors × lines)", head("take-down, four formula lines a floor"));
-    for (floors, mut job) in floors.into_iter().zip(jobs) {
+    for (floors, mut job) in GROWTH.into_iter().zip(jobs) {
         println!("{}   {:8.2}", job.row(), job.proved_ns() / (floors * 4 * floors) as f64);
     }
 }
 
-// Checks that both agree, and times them unless only the check is wanted.
+// Checks that both agree on all that is timed, and times them unless only the check is wanted.
 fn main() {
     let arguments: Vec<String> = std::env::args().skip(1).collect();
     let only_check = arguments == ["--check"];
@@ -166,10 +163,11 @@ fn main() {
         eprintln!("usage: bench/run [--check]");
         std::process::exit(2);
     }
-    agree::check();
+    let (jobs, growing_jobs) = (inputs::jobs(), inputs::growing_jobs());
+    jobs.iter().chain(&growing_jobs).for_each(|(_, work)| agree::check(work));
+    println!("proved and plain agree on the inputs of all {} jobs that are timed", jobs.len() + growing_jobs.len());
     if !only_check {
-        println!();
-        time_jobs();
-        time_growth();
+        time_jobs(jobs);
+        time_growth(growing_jobs);
     }
 }

@@ -1,14 +1,16 @@
-// Tries random columns by the safe calls, by the raw ones and by the second reckoning's list call: entries with refused
-// ones among them, asking at floors, and columns with more lines than they hold. The raw calls' places lie between canaries.
+// Tries random columns by the safe calls, by the raw ones and by the plain Rust: entries with refused ones among them,
+// asking at floors, and columns with more lines than they hold. The raw calls' places lie between canaries.
+mod beside;
 #[path = "../bindings/bungero.rs"]
 mod bungero;
 #[allow(dead_code)]
+#[path = "../plain/mod.rs"]
+mod plain;
 #[path = "../bench/random.rs"]
 mod random;
-#[allow(dead_code)]
-mod reckoning;
 
-use bungero::{raw, Column, Line, Refused, Working, LINES};
+use bungero::{raw, Column, Refused, Working, LINES};
+use plain::column::Entry;
 use random::Random;
 
 const CANARIES: usize = 16; // watched on either side of the places
@@ -39,12 +41,12 @@ impl RawColumn {
     }
 
     // The number of an entry. A refused one changes nothing, an accepted one no canary.
-    fn enter(&mut self, line: Line) -> u64 {
+    fn enter(&mut self, entry: Entry) -> u64 {
         let before = self.lent.clone();
-        let Line { floor, use_class, load, area } = line;
+        let Entry { floor, class, load, area } = entry;
         let places = self.lent[CANARIES..].as_mut_ptr().cast::<raw::Places>();
         // SAFETY: the places are those that opening gave, changed only here, and the count is the last one given.
-        let entered = unsafe { raw::bungero_enter(places, self.member, self.count, floor, use_class, load, area) };
+        let entered = unsafe { raw::bungero_enter(places, self.member, self.count, floor, class, load, area) };
         if entered.number != 0 {
             assert!(self.lent == before && entered.count == self.count, "a refused line changed the column");
             return entered.number;
@@ -72,76 +74,73 @@ impl RawColumn {
     }
 }
 
-// One column by all three ways; for the reckoning only the accepted lines are kept.
+// One column by all three ways.
 struct Trial {
-    code: u64,
     safe: Column,
     raw: RawColumn,
-    accepted: Vec<[u64; 4]>,
+    plain: plain::column::Column,
 }
 
 impl Trial {
     fn open(code: u64) -> Trial {
-        Trial { code, safe: Column::open(code).unwrap(), raw: RawColumn::open(code), accepted: Vec::new() }
+        let plain = plain::column::Column::open(code).unwrap();
+        Trial { safe: Column::open(code).unwrap(), raw: RawColumn::open(code), plain }
     }
 
-    // Enters a line; gives its number. The reckoning's list of the accepted lines and this one must be refused at this one.
-    fn enter(&mut self, line: Line) -> u64 {
-        self.accepted.push([line.floor, line.use_class, line.load, line.area]);
-        let number = match reckoning::listed(self.code, &self.accepted, line.floor) {
-            Ok(_) => 0,
-            Err((number, place)) => {
-                assert_eq!(place, self.accepted.len() as u64, "an accepted line is refused by the reckoning");
-                self.accepted.pop();
-                number
-            }
-        };
-        assert_eq!(self.raw.enter(line), number, "entering {line:?} after {:?}", self.accepted);
-        let safe = self.safe.enter(line).map_or_else(|refused| refused.number, |()| 0);
-        assert_eq!(safe, number, "entering {line:?} after {:?}", self.accepted);
+    // The accepted lines, for the message where something is wrong.
+    fn accepted(&self) -> Vec<Entry> {
+        self.plain.entries().collect()
+    }
+
+    // Enters a line; gives its number.
+    fn enter(&mut self, entry: Entry) -> u64 {
+        let entered = self.plain.enter(&entry).map_err(Refused::from);
+        let number = entered.map_or_else(|refused| refused.number, |()| 0);
+        assert_eq!(self.raw.enter(entry), number, "entering {entry:?}, then there are {:?}", self.accepted());
+        assert_eq!(self.safe.enter(entry.into()), entered, "entering {entry:?}, then there are {:?}", self.accepted());
         number
     }
 
-    // Asks at a floor; gives whether it has a line.
-    fn ask(&self, floor: u64) -> bool {
-        let reckoned = match reckoning::listed(self.code, &self.accepted, floor) {
-            Ok((floors, influence, figure)) => Ok(Working { floors, influence, figure }),
-            Err((number, _)) => Err(Refused { number }),
-        };
-        assert_eq!(self.raw.ask(floor), reckoned, "asking at {floor} after {:?}", self.accepted);
-        assert_eq!(self.safe.ask(floor), reckoned, "asking at {floor} after {:?}", self.accepted);
-        reckoned.is_ok()
+    // Asks at a floor.
+    fn ask(&self, floor: u64) -> Option<Working> {
+        let asked = self.plain.ask(floor).map(Working::from).map_err(Refused::from);
+        assert_eq!(self.raw.ask(floor), asked, "asking at {floor} after {:?}", self.accepted());
+        assert_eq!(self.safe.ask(floor), asked, "asking at {floor} after {:?}", self.accepted());
+        asked.ok()
     }
 
-    // Asks at every floor and beyond; gives how many have a line.
+    // Asks at every floor and beyond; gives how many have a line. The plain Rust's walk down must give the same.
     fn ask_all(&self) -> u64 {
         let wide = [256 + 1, 256 + 64, (1 << 32) + 1, (1 << 32) + 64, u64::MAX];
-        (0..=66).chain(wide).map(|floor| u64::from(self.ask(floor))).sum()
+        let asked = (0..=66).chain(wide).filter_map(|floor| Some((floor, self.ask(floor)?)));
+        let asked: Vec<(u64, Working)> = asked.collect();
+        let walked = self.plain.workings().map(|(floor, working)| (floor, working.into()));
+        assert_eq!(asked, walked.collect::<Vec<_>>(), "walking down {:?}", self.accepted());
+        asked.len() as u64
     }
 }
 
 // A good line at a floor, its load and area at a limit now and then.
-fn good_line(random: &mut Random, floor: u64) -> Line {
+fn good_line(random: &mut Random, floor: u64) -> Entry {
     let most_load = random.pick(&[5_000, 6_000, 50_000]);
     let most_area = random.pick(&[90, 900, 9_000, 200_000]);
     let (any_load, any_area) = (random.between(1, most_load), random.between(1, most_area));
     let load = random.pick(&[any_load, any_load, any_load, 1, 5_000, 5_001, 50_000]);
     let area = random.pick(&[any_area, any_area, any_area, any_area, any_area, 1, 200_000]);
-    Line { floor, use_class: random.between(1, 3), load, area }
+    Entry { floor, class: random.between(1, 3), load, area }
 }
 
 // The line at a floor further up, often above the last accepted one, or with some of its numbers outside their limits.
-fn damaged_line(random: &mut Random, good: Line) -> Line {
+fn damaged_line(random: &mut Random, good: Entry) -> Entry {
     if random.below(4) == 0 {
-        return Line { floor: good.floor.saturating_sub(random.between(1, 3)), ..good };
+        return Entry { floor: good.floor.saturating_sub(random.between(1, 3)), ..good };
     }
-    let mut numbers = [good.floor, good.use_class, good.load, good.area];
+    let mut numbers = [good.floor, good.class, good.load, good.area];
     for _ in 0..random.between(1, 4) {
         let field = random.index(4);
         numbers[field] = random.pick(&OUTSIDE[field]);
     }
-    let [floor, use_class, load, area] = numbers;
-    Line { floor, use_class, load, area }
+    numbers.into()
 }
 
 // What was met: floors asked at that have a line, entries of each number, and accepted ones just after a refused one.
@@ -173,7 +172,7 @@ fn try_random(columns: u64) -> Tally {
     tally
 }
 
-// Columns with four lines more than they hold, all of them good: the last four are refused with 2. How many figures they gave.
+// Columns with four good lines more than they hold, which are refused with 2. How many figures they gave.
 fn try_full(columns: u64) -> u64 {
     let random = &mut Random(6);
     let mut figures = 0;
@@ -196,7 +195,7 @@ fn main() {
     assert!(figures >= 5 * random, "only {figures} figures");
     assert!(entries[3..].iter().all(|&count| count >= random / 5), "too few entries with a number: {entries:?}");
     assert!(accepted_after_refused >= random, "only {accepted_after_refused} lines accepted after a refused one");
-    println!("{random} random columns by safe calls, raw calls and second reckoning alike: {figures} figures");
+    println!("{random} random columns by safe calls, raw calls and plain Rust alike: {figures} figures");
     println!("{} entries accepted, {accepted_after_refused} of them just after a refused one", entries[0]);
     println!("entries refused with 3 to 6: {:?}", &entries[3..]);
     println!("{full} columns with 4 lines too many, {} figures, nothing written beside their places", try_full(full));

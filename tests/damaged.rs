@@ -1,19 +1,19 @@
-// Tries bungero_read and bungero_report on damaged texts of every length from 0 to 33,000 bytes: the second reckoning's
-// sheet, refusal and report, the lent text and the memory around it as before, and in the buffer no byte written but the
-// report's own; none where the sheet is refused.
+// Tries bungero_read and bungero_report on damaged texts of every length from 0 to 33,000 bytes: the plain Rust's
+// sheet, refusal and report, the lent text and the memory around it as before, and in the buffer no byte written but
+// the report's own; none where the sheet is refused.
 #[path = "../bindings/bungero.rs"]
 mod bungero;
 #[allow(dead_code)]
+#[path = "../plain/mod.rs"]
+mod plain;
 #[path = "../bench/random.rs"]
 mod random;
-#[allow(dead_code)]
-mod reckoning;
 mod reports;
 
 use bungero::raw::{bungero_read, bungero_report, Reading, Reported};
 use bungero::REPORT_ROOM;
 use random::Random;
-use reports::{Reckoned, REPORT_BOUND};
+use reports::{Wanted, REPORT_BOUND};
 
 const LONGEST: usize = 33_000;
 
@@ -52,7 +52,8 @@ fn change_bytes(bytes: &mut [u8], random: &mut Random) {
     }
 }
 
-// Puts a number of 13 digits, beyond the limit or at it, in the place of an effect; the effects are the lines from a place on.
+// Puts a number of 13 digits, beyond the limit or at it, in the place of an effect; the effects are the lines from a
+// place on.
 fn put_long_effect(text: &mut Vec<u8>, effects: usize, random: &mut Random) {
     let starts: Vec<usize> = (effects..text.len()).filter(|&at| text[at] == b'=').map(|at| at + 1).collect();
     if starts.is_empty() {
@@ -66,8 +67,8 @@ fn put_long_effect(text: &mut Vec<u8>, effects: usize, random: &mut Random) {
     text.splice(start..start + length, number.into_bytes());
 }
 
-// What the damaged texts are cut from: good sheets by their number of lines, one with a line too many over and over, and random
-// bytes.
+// What the damaged texts are cut from: good sheets by their number of lines, one with a line too many over and over,
+// and random bytes.
 struct Sources {
     sheets: Vec<Vec<u8>>,
     repeated: Vec<u8>,
@@ -104,8 +105,8 @@ impl Sources {
         [sheet, self.part(length - sheet.len(), random)].concat()
     }
 
-    // The longest sheet that fits, with one to three bytes of its effects changed or an effect of 13 digits, then text left
-    // over; or cut where that is too long.
+    // The longest sheet that fits, with one to three bytes of its effects changed or an effect of 13 digits, then text
+    // left over; or cut where that is too long.
     fn effects_changed(&self, length: usize, random: &mut Random) -> Vec<u8> {
         let mut text = self.longest_within(length).to_vec();
         let effects = text.len().saturating_sub(EFFECTS.len());
@@ -151,8 +152,8 @@ impl Sources {
     }
 }
 
-// Both calls, with the text and the buffer each between canaries: `after` follows the text, so that one that read on would
-// find the text go on. All but the report's own bytes must be as before.
+// Both calls, with the text and the buffer each between canaries: `after` follows the text, so that one that read on
+// would find the text go on. All but the report's own bytes must be as before.
 fn give(text: &[u8], after: &[u8], fill: u8) -> (Reading, Reported, Vec<u8>) {
     let before = [&[fill; CANARIES], text, after].concat();
     let mut lent = before.clone();
@@ -172,7 +173,7 @@ fn give(text: &[u8], after: &[u8], fill: u8) -> (Reading, Reported, Vec<u8>) {
 // Tries one text, whose case is said where something is wrong; gives its number.
 fn try_text(text: &[u8], after: &[u8], fill: u8, case: &str) -> u64 {
     let (reading, reported, report) = give(text, after, fill);
-    let wanted = Reckoned::of(text);
+    let wanted = Wanted::of(text);
     assert_eq!(reported, wanted.reported, "{case}");
     assert_eq!(String::from_utf8_lossy(&report), String::from_utf8_lossy(&wanted.report), "{case}");
     assert_eq!(reading, wanted.reading, "{case}");
@@ -194,6 +195,6 @@ fn main() {
     assert!(counts[0] >= 257, "only {} sheets were read", counts[0]);
     assert!([1, 2, 3, 4, 5, 6, 9, 10, 11].iter().all(|&each| counts[each] >= 20), "too few with a number: {counts:?}");
     let texts: u64 = counts.iter().sum();
-    println!("{texts} damaged texts of 0 to {LONGEST} bytes as in the second reckoning, all memory beside as before");
+    println!("{texts} damaged texts of 0 to {LONGEST} bytes as by the plain Rust, all memory beside as before");
     println!("of these {} are read all the same, and refused with 1 to 11: {:?}", counts[0], &counts[1..]);
 }

@@ -11,9 +11,9 @@ sys.path.insert(0, str(TESTS))
 
 from reckoning import proved
 
-FIGURES = "crates/reduction/specs/Figures.antt"
-ASKED = "crates/figure/specs/Examples.antt"
-EXAMPLES = "crates/error_bound/specs/Examples.antt"  # may use the lists that ASKED defines
+FIGURES = "crates/reduction/specs/tables/Figures.antt"
+ASKED = "crates/figure/specs/tables/Examples.antt"
+EXAMPLES = "crates/error_bound/specs/tables/Examples.antt"  # may use the lists that ASKED defines
 
 
 def read(root, place):

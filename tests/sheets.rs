@@ -1,23 +1,21 @@
-// Tries bungero_read and bungero_report beside the second reckoning on random sheets, good and mutated:
-// `sheets COUNT [SECONDS [SEED]]`. A text is lent between canaries or at a guard page; it must stay as it was, and so must all
-// of the buffer but the report, and all of it where the sheet is refused. The status is 3 where the time was up before all
+// Tries bungero_read and bungero_report beside the plain Rust on random sheets, good and mutated: `sheets COUNT
+// [SECONDS [SEED]]`. A text is lent between canaries or at a guard page; it must stay as it was, and so must all of the
+// buffer but the report, and all of it where the sheet is refused. The status is 3 where the time was up before all
 // were tried.
 #[path = "../bindings/bungero.rs"]
 mod bungero;
-mod paper;
 #[allow(dead_code)]
+#[path = "../plain/mod.rs"]
+mod plain;
 #[path = "../bench/random.rs"]
 mod random;
-#[allow(dead_code)]
-mod reckoning;
-mod reckoning_trial;
 mod reports;
 mod texts;
 
 use bungero::raw::{bungero_read, bungero_report, Reading, Reported};
 use bungero::REPORT_ROOM;
 use random::Random;
-use reports::{Reckoned, REPORT_BOUND};
+use reports::{Wanted, REPORT_BOUND};
 use std::fs;
 use std::ops::Range;
 use std::panic::catch_unwind;
@@ -111,7 +109,8 @@ extern "C" fn stop_at_signal(number: i32) {
     stop(SEED.load(Relaxed), CASE.load(Relaxed), &format!("stopped by signal {number}{meaning}"));
 }
 
-// Where a case has its text and its buffer: one in 16 ends at a guard page, one in 16 starts after one, others lie between.
+// Where a case has its text and its buffer: one in 16 ends at a guard page, one in 16 starts after one, others lie
+// between.
 fn places(case: u64, length: usize) -> (usize, usize) {
     match case % 16 {
         0 => (TEXT_ROOM - length, OUT_ROOM - REPORT_ROOM),
@@ -152,17 +151,17 @@ fn differing(out: &[u8], length: usize, wanted: &[u8]) -> String {
         lines.map(|line| format!("    {}\n", line.escape_ascii())).collect()
     };
     let found = if length <= REPORT_BOUND { shown(&out[..length]) } else { "    (not shown)\n".into() };
-    let reckoned = shown(wanted);
-    format!("the reports differ; the library's, of {length} bytes:\n{found}and the reckoning's, of {}:\n{reckoned}", wanted.len())
+    let (plain, bytes) = (shown(wanted), wanted.len());
+    format!("the reports differ; the library's, of {length} bytes:\n{found}and plain Rust's, of {bytes}:\n{plain}")
 }
 
 // What is wrong in what the calls gave, where something is.
-fn wrong(reading: &Reading, reported: Reported, out: &[u8], wanted: &Reckoned) -> Option<String> {
+fn wrong(reading: &Reading, reported: Reported, out: &[u8], wanted: &Wanted) -> Option<String> {
     if *reading != wanted.reading {
-        return Some(format!("read as {reading:?}, and by the reckoning as {:?}", wanted.reading));
+        return Some(format!("read as {reading:?}, and by plain Rust as {:?}", wanted.reading));
     }
     if (reported.number, reported.line) != (wanted.reported.number, wanted.reported.line) {
-        return Some(format!("reported as {reported:?}, and by the reckoning as {:?}", wanted.reported));
+        return Some(format!("reported as {reported:?}, and by plain Rust as {:?}", wanted.reported));
     }
     let alike = reported.length == wanted.report.len() && out[..reported.length] == wanted.report;
     (!alike).then(|| differing(out, reported.length, &wanted.report))
@@ -172,8 +171,8 @@ fn wrong(reading: &Reading, reported: Reported, out: &[u8], wanted: &Reckoned) -
 fn try_case(seed: u64, case: u64, text_memory: &mut Guarded, out_memory: &mut Guarded) -> Reported {
     CASE.store(case, Relaxed);
     let text = random_text(&mut random_of(seed, case));
-    let reckoned = catch_unwind(|| Reckoned::of(&text));
-    let wanted = reckoned.unwrap_or_else(|_| stop(seed, case, "the reckoning has no report"));
+    let wanted = catch_unwind(|| Wanted::of(&text));
+    let wanted = wanted.unwrap_or_else(|_| stop(seed, case, "plain Rust has no report"));
     let (text_at, out_at) = places(case, text.len());
     let (lent, around) = (text_memory.around(text_at, text.len()), out_memory.around(out_at, REPORT_ROOM));
 
@@ -262,20 +261,19 @@ fn arguments() -> Option<(u64, Option<u64>, u64)> {
     }
 }
 
-// Tries the reckoning first, then the library beside it.
 fn main() {
     let Some((count, seconds, seed)) = arguments() else {
         eprintln!("usage: sheets COUNT [SECONDS [SEED]]");
         exit(2);
     };
-    reckoning_trial::try_reckoning();
     let tally = try_cases(count, seed, seconds.map(Duration::from_secs));
     println!("{}", tally.shown());
     if tally.sheets() >= 20_000 {
         tally.require_enough();
     }
     if tally.sheets() < count {
-        eprintln!("sheets: stopped after {} s with fewer sheets than the {count} that were asked for", seconds.unwrap_or(0));
+        let seconds = seconds.unwrap_or(0);
+        eprintln!("sheets: stopped after {seconds} s with fewer sheets than the {count} that were asked for");
         exit(3);
     }
 }

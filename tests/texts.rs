@@ -1,17 +1,33 @@
-// Random texts for the trial of sheets: good ones with many numbers at and beside the limits, mutations of them, and noise.
+// Random texts for the trial of sheets: good ones with many numbers at and beside the limits, mutations of them, and
+// noise.
+use crate::plain::column::{factor, Entry};
+use crate::plain::sheet::written;
 use crate::random::Random;
-use crate::reckoning::{self, Line, Sheet};
 use std::ops::Range;
+
+// What a sheet is to say, good or not: its member's code, its lines, and its effects from dead to quake.
+pub struct Draft {
+    code: u64,
+    entries: Vec<Entry>,
+    effects: [i64; 6],
+}
+
+impl Draft {
+    // The text of the sheet.
+    pub fn text(&self) -> Vec<u8> {
+        written(self.code, &self.entries, &self.effects)
+    }
+}
 
 // ---- Good sheets ------------------------------------------------------------
 
-pub const LIMIT: u64 = 1_000_000_000_000; // of an effect, in newtons
+const LIMIT: u64 = 1_000_000_000_000; // of an effect, in newtons
 const GREATEST: u64 = 9_999_999_999_999; // of 13 digits
-pub const LOADS: [u64; 9] = [1, 2, 2_000, 2_001, 4_999, 5_000, 5_001, 49_999, 50_000];
+const LOADS: [u64; 9] = [1, 2, 2_000, 2_001, 4_999, 5_000, 5_001, 49_999, 50_000];
 const AREAS: [u64; 4] = [1, 2, 199_999, 200_000];
 
 // A number from 1 to a most, or one of those at and beside the limits.
-pub fn random_number(random: &mut Random, most: u64, at_limits: &[u64]) -> u64 {
+fn random_number(random: &mut Random, most: u64, at_limits: &[u64]) -> u64 {
     if random.below(4) == 0 {
         random.pick(at_limits)
     } else {
@@ -20,7 +36,7 @@ pub fn random_number(random: &mut Random, most: u64, at_limits: &[u64]) -> u64 {
 }
 
 // Lines from the top down: floors that are repeated, follow each other or skip, and a habit of class, load and area.
-fn random_lines(random: &mut Random, count: u64) -> Vec<Line> {
+fn random_lines(random: &mut Random, count: u64) -> Vec<Entry> {
     let classes = random.pick(&[[1, 1, 1, 1], [1, 1, 1, 2], [1, 1, 2, 3], [1, 2, 3, 3], [2, 2, 2, 2], [3, 3, 3, 3]]);
     let most_load = random.pick(&[900, 5_000, 6_000, 50_000]);
     let most_area = random.pick(&[90, 900, 9_000, 200_000]);
@@ -31,14 +47,15 @@ fn random_lines(random: &mut Random, count: u64) -> Vec<Line> {
     for _ in 0..count {
         let class = random.pick(&classes);
         let load = random_number(random, most_load, &LOADS);
-        lines.push(Line { floor, class, load, area: random_number(random, most_area, &AREAS) });
+        lines.push(Entry { floor, class, load, area: random_number(random, most_area, &AREAS) });
         floor = (floor + random.pick(&steps)).min(64);
     }
     lines
 }
 
-// Formula lines whose X is at the cap, at a least share, or a square, on one floor or two; some with another line below.
-fn edge_lines(random: &mut Random, factor: u64) -> Vec<Line> {
+// Formula lines whose X is at the cap, at a least share, or a square, on one floor or two; some with another line
+// below.
+fn edge_lines(random: &mut Random, factor: u64) -> Vec<Entry> {
     let root = random.between(60, 306);
     let (least, most) = random.pick(&[(3_699, 3_720), (33_413, 33_418), (92_819, 92_824), (root * root, root * root)]);
     let area = random.between(least, most) / factor;
@@ -46,8 +63,8 @@ fn edge_lines(random: &mut Random, factor: u64) -> Vec<Line> {
     let with_whole_root = root * random.between(1, 5_000 / root);
     let load = random.pick(&[with_whole_root, with_whole_root, 2_000, 2_001, 4_999, 5_000, 1]);
     let floor = random.between(1, 63);
-    let line = |floor, area| Line { floor, class: 1, load, area };
-    let below = Line { floor: floor + 1, class: random.between(2, 3), load, area: random.between(1, 900) };
+    let line = |floor, area| Entry { floor, class: 1, load, area };
+    let below = Entry { floor: floor + 1, class: random.between(2, 3), load, area: random.between(1, 900) };
     match random.below(4) {
         0 => vec![line(floor, area)],
         1 => vec![line(floor, first), line(floor, area - first)],
@@ -72,60 +89,58 @@ fn random_effect(random: &mut Random, habit: u64) -> i64 {
 }
 
 // Six effects of one habit, or each of its own.
-fn random_effects(random: &mut Random) -> Vec<i64> {
+fn random_effects(random: &mut Random) -> [i64; 6] {
     let common = random.below(6);
-    let mut effects = Vec::new();
-    for _ in 0..6 {
+    std::array::from_fn(|_| {
         let habit = if common == 5 { random.below(5) } else { common };
-        effects.push(random_effect(random, habit));
-    }
-    effects
+        random_effect(random, habit)
+    })
 }
 
 // A good sheet with few lines.
-fn short_sheet(random: &mut Random) -> Sheet {
+fn short_sheet(random: &mut Random) -> Draft {
     let code = random.between(1, 12);
-    let factor = reckoning::factor(code).expect("a good code");
+    let factor = factor(code).expect("a good code");
     let most = random.pick(&[0, 1, 2, 3, 3, 4, 6, 12]);
     let count = random.between(0, most);
-    let lines = if random.below(4) == 0 { edge_lines(random, factor) } else { random_lines(random, count) };
-    Sheet { code: Some(code), lines, effects: random_effects(random) }
+    let entries = if random.below(4) == 0 { edge_lines(random, factor) } else { random_lines(random, count) };
+    Draft { code, entries, effects: random_effects(random) }
 }
 
 // A sheet of so many lines, most of them spread over all floors.
-fn long_sheet(random: &mut Random, count: u64) -> Sheet {
-    let mut lines = random_lines(random, count);
+fn long_sheet(random: &mut Random, count: u64) -> Draft {
+    let mut entries = random_lines(random, count);
     if random.below(4) > 0 {
-        for (floor, line) in (0..).map(|at| 1 + at * 64 / count).zip(&mut lines) {
-            line.floor = floor;
+        for (floor, entry) in (0..).map(|at| 1 + at * 64 / count).zip(&mut entries) {
+            entry.floor = floor;
         }
     }
-    Sheet { code: Some(random.between(1, 12)), lines, effects: random_effects(random) }
+    Draft { code: random.between(1, 12), entries, effects: random_effects(random) }
 }
 
 // The sheet with the longest report: 256 lines on 64 floors, with as many digits of X and of the figure as go together.
-pub fn longest_report() -> Sheet {
-    let light = Line { floor: 1, class: 1, load: 5_000, area: 200_000 };
-    let heavy = |floor| Line { floor, class: 3, load: 50_000, area: 200_000 };
-    let mut lines = vec![light; 125];
-    lines.extend([heavy(1); 68]);
-    lines.extend((2..=64).map(heavy));
+pub fn longest_report() -> Draft {
+    let light = Entry { floor: 1, class: 1, load: 5_000, area: 200_000 };
+    let heavy = |floor| Entry { floor, class: 3, load: 50_000, area: 200_000 };
+    let mut entries = vec![light; 125];
+    entries.extend([heavy(1); 68]);
+    entries.extend((2..=64).map(heavy));
     let limit = LIMIT as i64;
-    Sheet { code: Some(1), lines, effects: vec![0, 0, -limit, limit, limit, 0] }
+    Draft { code: 1, entries, effects: [0, 0, -limit, limit, limit, 0] }
 }
 
 // ---- Mutations --------------------------------------------------------------
 
 // One of a line's four numbers, the code or an effect goes beyond its limits.
-fn exceed_limit(random: &mut Random, sheet: &mut Sheet) {
-    let field = if sheet.lines.is_empty() { random.between(4, 5) } else { random.below(6) };
-    let at = random.index(sheet.lines.len().max(1));
-    match (field, sheet.lines.get_mut(at)) {
+fn exceed_limit(random: &mut Random, sheet: &mut Draft) {
+    let field = if sheet.entries.is_empty() { random.between(4, 5) } else { random.below(6) };
+    let at = random.index(sheet.entries.len().max(1));
+    match (field, sheet.entries.get_mut(at)) {
         (0, Some(line)) => line.floor = random.pick(&[0, line.floor.saturating_sub(1), 65, 256 + line.floor, GREATEST]),
         (1, Some(line)) => line.class = random.pick(&[0, 4, 5, 256 + line.class, GREATEST]),
         (2, Some(line)) => line.load = random.pick(&[0, 50_001, 65_536, 65_536 + line.load, GREATEST]),
         (3, Some(line)) => line.area = random.pick(&[0, 200_001, 1 << 32, (1 << 32) + line.area, GREATEST]),
-        (4, _) => sheet.code = Some(random.pick(&[0, 13, 256, 257, 65_537, (1 << 32) + 1, GREATEST])),
+        (4, _) => sheet.code = random.pick(&[0, 13, 256, 257, 65_537, (1 << 32) + 1, GREATEST]),
         _ => {
             let beyond = random.pick(&[LIMIT + 1, LIMIT + 2, 2 * LIMIT, 10 * LIMIT - 1, (1 << 40) + 1]) as i64;
             sheet.effects[random.index(6)] = beyond * random.pick(&[1, -1]);
@@ -138,12 +153,13 @@ const ALPHABET: &[u8] = b"0123456789 \n=-abcdefiklmnoqrsuw"; // all bytes of goo
 const GOOD_LINE: &str = "floor=64 class=1 load=1 area=1\n";
 const LEFT_OVER: [&str; 9] = ["\n", " ", "0", "\0", "\r\n", "x\n", "quake=0\n", "dead=0\n", GOOD_LINE];
 
-// Numbers that are at a limit of some field or beyond it, that look right when cut to fewer bits, or that are in no form.
+// Numbers that are at a limit of some field or beyond it, that look right when cut to fewer bits, or that are in no
+// form.
 const NUMBERS: [&str; 40] = [
-    "0", "1", "2", "3", "4", "12", "13", "63", "64", "65", "256", "257", "5000", "5001", "50000", "50001", "65537", "200000",
-    "200001", "4294967297", "1000000000000", "1000000000001", "9999999999999", "10000000000000", "18446744073709551617",
-    "-1", "-64", "-1000000000000", "-1000000000001", "-9999999999999", "-10000000000000", "", "-", "-0", "00", "01", "+1",
-    "1.", "1e3", "0x1",
+    "0", "1", "2", "3", "4", "12", "13", "63", "64", "65", "256", "257", "5000", "5001", "50000", "50001", "65537",
+    "200000", "200001", "4294967297", "1000000000000", "1000000000001", "9999999999999", "10000000000000",
+    "18446744073709551617", "-1", "-64", "-1000000000000", "-1000000000001", "-9999999999999", "-10000000000000", "",
+    "-", "-0", "00", "01", "+1", "1.", "1e3", "0x1",
 ];
 
 // A byte of a sheet, or any other.
@@ -177,8 +193,8 @@ fn mutate_byte(random: &mut Random, text: &mut Vec<u8>) {
     }
 }
 
-// A line is left out, doubled, exchanged with another, or moved to the end, or a good or an empty one is put in, or one has a
-// carriage return before its newline.
+// A line is left out, doubled, exchanged with another, or moved to the end, or a good or an empty one is put in, or one
+// has a carriage return before its newline.
 fn mutate_line(random: &mut Random, text: &mut Vec<u8>) {
     let mut lines: Vec<Vec<u8>> = text.split_inclusive(|&byte| byte == b'\n').map(<[u8]>::to_vec).collect();
     if lines.is_empty() {
@@ -279,7 +295,7 @@ const LONGEST_TEXT: usize = 70_000;
 fn text_near_limit(random: &mut Random) -> Vec<u8> {
     let (near, beyond) = (random.between(32_700, 32_800), random.between(32_769, 66_000));
     let length = random.pick(&[32_766, 32_767, 32_768, 32_768, 32_768, 32_769, 32_769, 32_770, near, beyond]) as usize;
-    let sheet = reckoning::written(&short_sheet(random));
+    let sheet = short_sheet(random).text();
     let filling = random.pick(&["\0", "\n", " ", "0", "left over ", "member=1\n", GOOD_LINE, GOOD_LINE]).as_bytes();
     let ends: Vec<usize> = (1..=sheet.len()).filter(|&at| sheet[at - 1] == b'\n').collect();
     let any_end = random.pick(&ends);
@@ -312,7 +328,7 @@ fn long_text(random: &mut Random) -> Vec<u8> {
     let (few, many) = (random.between(13, 256), random.between(257, 300));
     let count = random.pick(&[few, few, 255, 256, 256, 257, 257, many]);
     let sheet = if random.below(16) == 0 { longest_report() } else { long_sheet(random, count) };
-    let mut text = reckoning::written(&sheet);
+    let mut text = sheet.text();
     if random.below(3) == 0 {
         mutate(random, &mut text);
     }
@@ -327,7 +343,7 @@ fn short_text(random: &mut Random) -> Vec<u8> {
     for _ in 0..beyond_limits {
         exceed_limit(random, &mut sheet);
     }
-    let mut text = reckoning::written(&sheet);
+    let mut text = sheet.text();
     for _ in 0..mutations {
         mutate(random, &mut text);
     }

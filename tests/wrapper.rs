@@ -1,13 +1,14 @@
-// Tries the safe calls for Rust: the figures that the paper prints, every refusal by its name, sheets read and refused, and
-// random reduced loads.
+// Tries the safe calls for Rust: the figures that the paper prints, every refusal by its name, sheets read and refused,
+// and reduced loads beside the plain Rust, random ones and those where the share changes.
+mod beside;
 #[path = "../bindings/bungero.rs"]
 mod bungero;
 mod paper;
 #[allow(dead_code)]
+#[path = "../plain/mod.rs"]
+mod plain;
 #[path = "../bench/random.rs"]
 mod random;
-#[allow(dead_code)]
-mod reckoning;
 
 use bungero::refusal::*;
 use bungero::{check, combine, figure_of, raw, read, reduced_load, report, report_into, LINES, REPORT_ROOM};
@@ -86,7 +87,8 @@ fn try_refused_sheets() {
     let reported = unsafe { raw::bungero_report(std::ptr::null(), 0, &mut out) };
     assert_eq!(reported, raw::Reported { number: FORM, line: 1, length: 0 }, "no text, lent from nowhere");
     let reading = unsafe { raw::bungero_read(std::ptr::null(), 0) };
-    assert_eq!((reading.number, reading.line, reading.start, reading.end), (FORM, 1, 0, 0), "no text, lent from nowhere");
+    let refused = (reading.number, reading.line, reading.start, reading.end);
+    assert_eq!(refused, (FORM, 1, 0, 0), "no text, lent from nowhere");
 }
 
 // The paper's two columns, by the list call and by the column's own calls.
@@ -190,24 +192,37 @@ fn random_reducible(random: &mut Random) -> [u64; 4] {
     let any_class = random.between(1, 3);
     let classes = [1, 1, 1, any_class, any_class, any_class, random.below(5), (1 << 32) + 1];
     let floors = [random.below(4), 1, 2, u64::MAX];
-    let influences = [random.below(100_000), random.below(10_000), random.between(3_000, 4_000), u64::MAX - random.below(9)];
+    let (any, small, near_cap) = (random.below(100_000), random.below(10_000), random.between(3_000, 4_000));
+    let influences = [any, small, near_cap, u64::MAX - random.below(9)];
     [random.pick(&loads), random.pick(&classes), random.pick(&floors), random.pick(&influences)]
 }
 
-// Random reduced loads: the safe call, the raw one and the second reckoning. How many are refused.
+// A reduced load by the safe call, the raw one and the plain Rust. Whether it is refused.
+fn try_load(numbers: [u64; 4]) -> bool {
+    let [load, class, floors, influence] = numbers;
+    let wanted = plain::reduction::reduced_load(load, class, floors, influence).map_err(Refused::from);
+    assert_eq!(reduced_load(load, class, floors, influence), wanted, "{numbers:?}");
+    let given = unsafe { raw::bungero_reduced_load(load, class, floors, influence) };
+    let given_as = wanted.map_or_else(|refused| (refused.number, 0), |reduced| (0, reduced));
+    assert_eq!((given.number, given.reduced), given_as, "{numbers:?}");
+    wanted.is_err()
+}
+
+// Loads where the share of formula lines changes and beside it, below and above the limit of formula lines.
+fn try_edge_loads() {
+    let loads = [1, 2, 1_999, 2_000, 2_001, 4_999, 5_000, 5_001];
+    for influence in [0, 3_699, 3_700, 3_712, 3_713, 3_720, 33_415, 33_416, 92_821, 92_822] {
+        let refused = loads.map(|load| [0, 1, 2].map(|floors| try_load([load, 1, floors, influence])));
+        assert_eq!(refused, [[false; 3]; 8]);
+    }
+}
+
+// Random reduced loads. How many are refused.
 fn try_random_loads(count: u64) -> u64 {
     let random = &mut Random(4);
     let mut refused = 0;
     for _ in 0..count {
-        let numbers = random_reducible(random);
-        let [load, class, floors, influence] = numbers;
-        let reckoned = reckoning::reduced(load, class, floors, influence);
-        let given = unsafe { raw::bungero_reduced_load(load, class, floors, influence) };
-        let wanted = reckoned.map_or_else(|number| (number, 0), |reduced| (0, reduced));
-        assert_eq!((given.number, given.reduced), wanted, "{numbers:?}");
-        let safe = reduced_load(load, class, floors, influence);
-        assert_eq!(safe, reckoned.map_err(|number| Refused { number }), "{numbers:?}");
-        refused += u64::from(safe.is_err());
+        refused += u64::from(try_load(random_reducible(random)));
     }
     assert!(refused >= count / 20 && refused <= count / 2, "{refused} of {count} loads refused");
     refused
@@ -224,5 +239,6 @@ fn main() {
     try_display();
     assert_eq!(unsafe { raw::bungero_layout_1() }, 1);
     println!("the safe calls give the paper's figures and refusals");
-    println!("1000000 random reduced loads as in the second reckoning, {} refused", try_random_loads(1_000_000));
+    try_edge_loads();
+    println!("1000000 random reduced loads as by the plain Rust, {} refused", try_random_loads(1_000_000));
 }

@@ -13,7 +13,7 @@ use Rattle.column.specs.declared.Member.{Member}
 use Rattle.column.specs.declared.Column.{Column}
 use Rattle.column.specs.Line.{line, packed, unpacked}
 use Rattle.column.specs.Column.{linesOf, columnOf, columnFrom}
-use Rattle.column.specs.Sound.{InLimits}
+use Rattle.column.specs.inner.Sound.{InLimits}
 
 four : {a b c d e f g h : ℕ} → e ≡ a → f ≡ b → g ≡ c → h ≡ d → line e f g h ≡ line a b c d
 four p q r s = rw (p, q, r, s)

@@ -7,7 +7,7 @@ use Rattle.refusal.proofs.Said.{by-number}
 use Rattle.column.specs.declared.Line.{Line}
 use Rattle.column.specs.declared.Column.{Column}
 use Rattle.column.specs.Column.{enteredOf, after}
-use Rattle.column.specs.Entering.{NoneRefused, none, more, Stops, EveryList}
+use Rattle.column.specs.theorems.Entering.{NoneRefused, none, more, Stops, EveryList}
 
 -- a line that is entered before a list
 onward : (c : Column) (l : Line) (lines : List Line) → enteredOf c l .number ≡ 0

@@ -7,7 +7,7 @@ use Rattle.column.specs.declared.Member.{Member}
 use Rattle.column.specs.declared.Column.{Column}
 use Rattle.column.specs.Accepted.{accepted}
 use Rattle.column.specs.Column.{linesOf, columnOf, Reached}
-use Rattle.column.specs.InTurn.{Holdable, AcceptedInTurn, none, more}
+use Rattle.column.specs.theorems.InTurn.{Holdable, AcceptedInTurn, none, more}
 use Rattle.column.proofs.Columns.{column-lines}
 use Rattle.column.proofs.Reach.{holdable-none, holdable-more, accepted-all, accepted-holdable, reached-column}
 

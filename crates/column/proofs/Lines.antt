@@ -11,7 +11,7 @@ use Rattle.column.specs.declared.Column.{Column}
 use Rattle.column.specs.Line.{unpacked}
 use Rattle.column.specs.Accepted.{lastFloor}
 use Rattle.column.specs.Column.{linesOf}
-use Rattle.column.specs.Sound.{lineAt, linesBefore, linesBetween}
+use Rattle.column.specs.inner.Sound.{lineAt, linesBefore, linesBetween}
 
 -- a column holds as many lines as it counts
 pub lines-length : (c : Column) → c .count ≤ length (c .held) → length (linesOf c) ≡ c .count

@@ -17,8 +17,8 @@ use Rattle.column.specs.declared.Column.{Column}
 use Rattle.column.specs.declared.Outcome.{Outcome}
 use Rattle.column.specs.Accepted.{lastFloor, firstCondition, entryNumber, joined, acceptedFrom, accepted}
 use Rattle.column.specs.Column.{linesOf, columnOf, unopened, openedOf, enteredOf, after, Reached}
-use Rattle.column.specs.Sound.{InLimits, Sound}
-use Rattle.column.specs.InTurn.{Holdable}
+use Rattle.column.specs.inner.Sound.{InLimits, Sound}
+use Rattle.column.specs.theorems.InTurn.{Holdable}
 use Rattle.lists.proofs.Lists.{all-more}
 use Rattle.lists.proofs.Tests.{cases}
 use Rattle.column.proofs.Columns.{column-lines, column-size}

@@ -31,7 +31,7 @@ firstCondition m count last l =
 unfoldable pub entryNumber : Member → List Line → Line → ℕ
 entryNumber m ls l = firstCondition m (length ls) (lastFloor ls) l
 
--- 01, Reduced load and figure: where no condition holds the line joins the end of the accepted lines, else they stay as they are
+-- 01, Reduced load and figure: where no condition holds the line "joins the end of the accepted lines", else they stay
 unfoldable pub joined : Member → List Line → Line → List Line
 joined m ls l = cond (eqb (entryNumber m ls l) 0) (ls ++ (l ∷ [])) ls
 

@@ -25,12 +25,8 @@ linesOf c = map unpacked (take (c .count) (c .held))
 unfoldable pub columnOf : Member → List Line → Column
 columnOf m ls = record { member = m; count = length ls; held = map packed ls ++ replicate (mostLines - length ls) 0 }
 
--- no part of the paper has it: the places of a column without lines
-abbrev pub noPlaces : List ℕ
-noPlaces = replicate mostLines 0
-
--- no part of the paper has it: the column that a member, a count of lines and its places make, which a call in place takes
--- instead of the column
+-- No part of the paper: the column that a member, a count of lines and its places make, which a call in place takes instead
+-- of the column
 abbrev pub columnFrom : Member → ℕ → List ℕ → Column
 columnFrom m n places = record { member = m; count = n; held = places }
 
@@ -38,13 +34,13 @@ columnFrom m n places = record { member = m; count = n; held = places }
 abbrev pub memberOf : ℕ → Member
 memberOf code = record { code = code }
 
--- no part of the paper has it: what stands in the column's place where opening is refused; it is not reached
+-- No part of the paper: what stands in the column's place where opening is refused; it is not reached
 -- (`unopened-not-reached`), so no call takes it
 abbrev pub unopened : Column
 unopened = columnOf (memberOf 0) []
 
--- 01, Numbers by the place of checking: opening a member; 1 where the code is not 1 to 12. An outcome is the number of the first
--- condition that holds, 0 where none does, and the column then
+-- 01, Numbers by the place of checking: opening a member; 1 where the code is not 1 to 12. An outcome is the number of the
+-- first condition that holds, 0 where none does, and the column then
 unfoldable pub openedOf : Member → Outcome
 openedOf m =
     cond (between 1 12 (m .code))
@@ -69,10 +65,11 @@ pub record Reached (c : Column) : Type 0 where
   pub opened : openedOf member .number ≡ 0
   pub is : c ≡ after (openedOf member .column) entries
 
--- no part of the paper has it: the outcome of opening where a caller has places of its own, and that of entering in place, which
--- leaves the column that the member, the count and the places make
+-- No part of the paper: the outcome of opening where a caller has places of its own
 unfoldable pub openedOutcome : Opened → Outcome
 openedOutcome o = record { number = o .number; column = columnOf (o .member) [] }
 
+-- No part of the paper: the outcome of entering in place, which leaves the column that the member, the count and the places
+-- make
 unfoldable pub joinedOutcome : Member → Joined → List ℕ → Outcome
 joinedOutcome m j places = record { number = j .number; column = columnFrom m (j .count) places }

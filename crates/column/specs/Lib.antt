@@ -1,7 +1,6 @@
--- The definitions of a column; paper 01 in its order, then what private functions ask and what laws say of accepted lines.
+-- The definitions of a column; paper 01 in its order.
 pub mod Line
 pub mod Accepted
 pub mod Column
-pub mod Entering
-pub mod Sound
-pub mod InTurn
+pub mod theorems
+pub mod inner

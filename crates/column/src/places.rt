@@ -2,7 +2,7 @@
 ghost use mathlib.Core.Path.{_≡_};
 ghost use Rattle.column.specs.Accepted.{lastFloor};
 ghost use Rattle.column.specs.Line.{packed};
-ghost use Rattle.column.specs.Sound.{InLimits, Held, linesBefore};
+ghost use Rattle.column.specs.inner.Sound.{InLimits, Held, linesBefore};
 use crate::Line;
 use crate::Places;
 

@@ -15,11 +15,13 @@ use Rattle.effects.specs.declared.Newtons.{Newtons}
 use Rattle.effects.specs.declared.LoadEffect.{LoadEffect}
 use Rattle.refusal.specs.Said.{Told, gives, refused}
 use Rattle.newtons.specs.Effect.{limit, within}
-use Rattle.effects.specs.Check.{loads, newtonsOf, doublesOf, checkedOf}
-use Rattle.effects.specs.Sized.{EachAtMost, Seven}
+use Rattle.effects.specs.Check.{loads, newtonsOf, checkedOf}
+use Rattle.effects.specs.theorems.Doubles.{doublesOf}
+use Rattle.effects.specs.inner.Sized.{EachAtMost, Seven}
 use Rattle.combination.specs.declared.Governing.{Governing}
 use Rattle.combination.specs.Governing.{sums, best}
-use Rattle.combination.specs.Combine.{rowOf, governingOf, governing, RowsGovern, limitedFrom, governed, governedOf, withDouble, combined, combinedOf, Exact, NothingLost}
+use Rattle.combination.specs.Combine.{rowOf, governingOf, governing, limitedFrom, governed, withDouble, combined, combinedOf, Exact, NothingLost}
+use Rattle.combination.specs.theorems.Governs.{RowsGovern}
 use Rattle.newtons.proofs.Values.{value-back}
 use Rattle.effects.proofs.Checks.{checked-seven, doubles-taken}
 use Rattle.combination.proofs.Table.{sums-some, sums-small}
@@ -68,7 +70,7 @@ pub seven-governed : (xs : List ℤ) → Seven limit xs → governed xs ≡ give
 unfolding governed
 seven-governed xs s = none-beyond loads xs (governing xs) (s .each)
 
-pub newtons-governed : (n : Newtons) → Seven limit (newtonsOf n) → governedOf n ≡ gives (governing (newtonsOf n))
+pub newtons-governed : (n : Newtons) → Seven limit (newtonsOf n) → governed (newtonsOf n) ≡ gives (governing (newtonsOf n))
 newtons-governed n s = seven-governed (newtonsOf n) s
 
 -- what the check takes governs as it is

@@ -5,7 +5,7 @@ use Rattle.effects.specs.Check.{placeOf, newtonsOf}
 use Rattle.combination.specs.Factors.{combinations, factorIn, factors}
 use Rattle.combination.specs.Governing.{sumOf, sums, better, bestFrom, best}
 use Rattle.combination.specs.Combine.{governing}
-use Rattle.combination.specs.Examples.{examples, Holds}
+use Rattle.combination.specs.tables.Examples.{examples, Holds}
 use Rattle.effects.proofs.Sevens.{seven-of}
 use Rattle.combination.proofs.Answers.{newtons-combined}
 

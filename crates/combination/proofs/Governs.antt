@@ -13,9 +13,10 @@ use lib.ListN.{length, getD, drop, drop-of-length-le}
 use lib.Seq.{drop-cons}
 use lib.Signed.{ltZ, ltZ-no, <ℤ-≤ℤ-trans}
 use borrow.Author.Tests.{le-ltb, ltb-true}
-use Rattle.effects.specs.Sized.{EachAtMost}
+use Rattle.effects.specs.inner.Sized.{EachAtMost}
 use Rattle.combination.specs.declared.search.Best.{Best}
-use Rattle.combination.specs.Governing.{greater, less, better, bestFrom, best, GovernsFirst, Governs}
+use Rattle.combination.specs.Governing.{greater, less, better, bestFrom, best}
+use Rattle.combination.specs.theorems.Governs.{GovernsFirst, Governs}
 
 -- ---- a step of the search, and its end
 

@@ -13,7 +13,7 @@ use mir.Syntax.{w8}
 use mir.Val.{toZ, ofZ}
 use mir.ValLaws.{toZ-ofZ}
 use Rattle.newtons.specs.Effect.{limit}
-use Rattle.effects.specs.Sized.{EachAtMost, Seven}
+use Rattle.effects.specs.inner.Sized.{EachAtMost, Seven}
 use Rattle.newtons.proofs.Word.{size-neg, mag-le}
 use Rattle.combination.specs.Governing.{sumOf}
 

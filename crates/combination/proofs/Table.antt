@@ -8,7 +8,7 @@ use lib.IntN.{ℤ, pos, natAbs}
 use lib.ListN.{length, getD, length-map, List·getD-map}
 use Rattle.effects.specs.Check.{placeOf}
 use Rattle.newtons.specs.Effect.{limit}
-use Rattle.effects.specs.Sized.{EachAtMost, Seven}
+use Rattle.effects.specs.inner.Sized.{EachAtMost, Seven}
 use Rattle.combination.specs.Factors.{combinations, factorIn, factors}
 use Rattle.combination.specs.Governing.{sumOf, sums}
 use Rattle.effects.proofs.Sevens.{each-below, every, at, sevenTest, seven-of}

@@ -1,4 +1,4 @@
--- Paper 01, "Effects and the 25 combinations": the whole answer, from seven whole numbers or seven doubles to the governing rows.
+-- Paper 01, "Effects and the 25 combinations": the whole answer, from seven numbers or seven doubles to the governing rows.
 -- Assumes nothing.
 use mathlib.Core.Path.{_≡_}
 use mathlib.Core.Bool.{cond}
@@ -10,11 +10,10 @@ use Rattle.refusal.specs.declared.Refusal.the-variants.{EffectOutOfRange}
 use Rattle.effects.specs.declared.Load.{Load}
 use Rattle.effects.specs.declared.Load.the-variants.{Dead, Live, Roof, Snow, Rain, Wind, Quake}
 use Rattle.effects.specs.declared.Effects.{Effects}
-use Rattle.effects.specs.declared.Newtons.{Newtons}
 use Rattle.effects.specs.declared.LoadEffect.{LoadEffect}
 use Rattle.refusal.specs.Said.{Told, gives, refused}
 use Rattle.newtons.specs.Effect.{valueOf, whole, within}
-use Rattle.effects.specs.Check.{loadEffect, loads, newtonsOf, checkedOf}
+use Rattle.effects.specs.Check.{loadEffect, loads, checkedOf}
 use Rattle.combination.specs.declared.search.Best.{Best}
 use Rattle.combination.specs.declared.GoverningRow.{GoverningRow}
 use Rattle.combination.specs.declared.Governing.{Governing}
@@ -22,7 +21,7 @@ use Rattle.combination.specs.declared.Governed.{Governed}
 use Rattle.combination.specs.declared.Governed.the-variants as G
 use Rattle.combination.specs.declared.Combined.{Combined}
 use Rattle.combination.specs.declared.Combined.the-variants as C
-use Rattle.combination.specs.Governing.{greater, less, sums, best, Governs}
+use Rattle.combination.specs.Governing.{greater, less, sums, best}
 
 -- 01, Effects and the 25 combinations: "Results are whole tenths of a newton and also go out as doubles"
 abbrev pub rowOf : Best → GoverningRow
@@ -36,11 +35,6 @@ governingOf high low = record { greatest = rowOf (best greater high); least = ro
 unfoldable pub governing : List ℤ → Governing
 governing xs = governingOf (sums xs) (sums xs)
 
--- 01, Effects and the 25 combinations: what the governing rows mean, over all rows
-pub record RowsGovern (high low : List ℤ) (g : Governing) : Type 0 where
-  pub greatest : Governs greater high (g .greatest .row) (g .greatest .tenths)
-  pub least : Governs less low (g .least .row) (g .least .tenths)
-
 -- 01, Numbers by the place of checking: "D to E as listed", 9 and the first load whose number is "beyond ±1,000,000,000,000"
 unfoldable pub limitedFrom : List Load → List ℤ → Governing → Told Load Governing
 limitedFrom (l ∷ ls) (z ∷ zs) g = cond (within z) (limitedFrom ls zs g) (refused 9 l)
@@ -50,9 +44,6 @@ limitedFrom [] zs g = gives g
 -- 01, Effects and the 25 combinations: from seven whole numbers to the governing rows, or the first beyond the limit
 unfoldable pub governed : List ℤ → Told Load Governing
 governed xs = limitedFrom loads xs (governing xs)
-
-abbrev pub governedOf : Newtons → Told Load Governing
-governedOf n = governed (newtonsOf n)
 
 -- 01, Where each language form belongs: the number and the values of each case
 unfoldable pub saidGoverned : Governed → Told Load Governing
@@ -69,7 +60,7 @@ effectFor e Rain = loadEffect Rain (e .rain)
 effectFor e Wind = loadEffect Wind (e .wind)
 effectFor e Quake = loadEffect Quake (e .quake)
 
--- what governs, a refusal with the effect as it came
+-- 01, Effects and the 25 combinations: what governs, or a refusal with "the double as it came"
 unfoldable pub withDouble : Effects → Told Load Governing → Told LoadEffect Governing
 withDouble e (gives g) = gives g
 withDouble e (refused n l) = refused n (effectFor e l)

@@ -1,4 +1,5 @@
--- Paper 01, "Effects and the 25 combinations": the factors, in tenths, row by row as the paper writes them.
+-- Paper 01, "Effects and the 25 combinations": the factors, in tenths, row by row as the paper writes them; its letters for the
+-- effects are the names that the loads have here.
 -- Assumes nothing.
 use mathlib.Core.Bool.{cond}
 use mathlib.Core.List.{List, [], _∷_, _++_, map}
@@ -6,40 +7,20 @@ use Prim.Native.Nat.{ℕ}
 use lib.Dec.{eqb}
 use lib.IntN.{ℤ, pos, negℤ, _+ℤ_}
 use Rattle.effects.specs.declared.Load.{Load}
-use Rattle.effects.specs.declared.Load.the-variants.{Dead, Live, Roof, Snow, Rain, Wind, Quake}
+use Rattle.effects.specs.declared.Load.the-variants.{Dead as D, Live as L, Roof as Lr, Snow as S, Rain as R, Wind as W, Quake as E}
 use Rattle.effects.specs.Check.{placeOf}
 
--- 01, Effects and the 25 combinations: the seven effects by their letters
-abbrev D : Load
-D = Dead
-
-abbrev L : Load
-L = Live
-
-abbrev Lr : Load
-Lr = Roof
-
-abbrev S : Load
-S = Snow
-
-abbrev R : Load
-R = Rain
-
-abbrev W : Load
-W = Wind
-
-abbrev E : Load
-E = Quake
-
--- 01, Effects and the 25 combinations: a term such as 12D, so many tenths of an effect, or −5W
+-- 01, Effects and the 25 combinations: a term, so many tenths of an effect
 pub record Term : Type 0 where
   pub tenths : ℤ
   pub load : Load
 
+-- 01, Effects and the 25 combinations: a term such as 12D
 infix 80 _·_ _−·_
 abbrev pub _·_ : ℕ → Load → Term
 k · l = record { tenths = pos k; load = l }
 
+-- 01, Effects and the 25 combinations: a term such as −5W
 abbrev pub _−·_ : ℕ → Load → Term
 k −· l = record { tenths = negℤ (pos k); load = l }
 

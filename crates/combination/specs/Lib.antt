@@ -1,5 +1,7 @@
--- The 25 combinations, the rows that govern, the whole answer, and the paper's cases.
+-- The 25 combinations, the rows that govern, and the whole answer.
 pub mod Factors
 pub mod Governing
 pub mod Combine
-pub mod Examples
+pub mod theorems
+pub mod tables
+pub mod inner

@@ -3,8 +3,8 @@ ghost use mathlib.Core.Path.{_≡_};
 ghost use Prim.Native.Nat.{_<_};
 ghost use lib.ListN.{getD};
 ghost use Rattle.effects.specs.declared.Load.the-variants.{Dead};
-ghost use Rattle.effects.specs.Check.{loads};
-ghost use Rattle.combination.specs.Combine.{governedOf, saidGoverned, effectFor, withDouble, combinedOf, saidCombined, NothingLost};
+ghost use Rattle.effects.specs.Check.{loads, newtonsOf};
+ghost use Rattle.combination.specs.Combine.{governed, saidGoverned, effectFor, withDouble, combinedOf, saidCombined, NothingLost};
 use effects::Checked;
 use effects::Effects;
 use effects::Load;
@@ -63,7 +63,7 @@ fn load_at(i: usize) -> Load
 
 // The governing rows of seven effects in whole newtons, or the first load whose effect is beyond the limit.
 pub fn govern(newtons: Newtons) -> Governed
-    ensures { λ r. ⌜ (saidGoverned r ≡ governedOf newtons) × NothingLost (saidGoverned r) ⌝ }
+    ensures { λ r. ⌜ (saidGoverned r ≡ governed (newtonsOf newtons)) × NothingLost (saidGoverned r) ⌝ }
 {
     let effects = search::listed_newtons(newtons);
     let mut i = 0usize;

@@ -15,8 +15,9 @@ use Rattle.effects.specs.declared.Newtons.{Newtons}
 use Rattle.effects.specs.declared.LoadEffect.{LoadEffect}
 use Rattle.refusal.specs.Said.{Told, gives, refused}
 use Rattle.newtons.specs.Effect.{limit, effectOf}
-use Rattle.effects.specs.Check.{loadEffect, listed, newtonsOf, doublesOf, ifGiven, checkedFrom, checkedOf}
-use Rattle.effects.specs.Sized.{EachAtMost, Sized, Seven}
+use Rattle.effects.specs.Check.{loadEffect, listed, newtonsOf, ifGiven, checkedFrom, checkedOf}
+use Rattle.effects.specs.theorems.Doubles.{doublesOf}
+use Rattle.effects.specs.inner.Sized.{EachAtMost, Sized, Seven}
 use Rattle.newtons.proofs.Values.{value-back}
 use Rattle.newtons.proofs.Limits.{effect-whole, effect-within}
 

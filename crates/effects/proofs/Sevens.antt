@@ -8,7 +8,7 @@ use lib.Dec.{T, leb, eqb, leb→le, le→leb, eqb→eq}
 use lib.IntN.{ℤ, pos, natAbs}
 use lib.ListN.{length, getD, set, replicate, length-set}
 use lib.Ieee.Fits.{and-l, and-r}
-use Rattle.effects.specs.Sized.{EachAtMost, Seven}
+use Rattle.effects.specs.inner.Sized.{EachAtMost, Seven}
 
 -- ---- seven numbers, each at most so large in size
 

@@ -3,7 +3,7 @@
 use mathlib.Core.List.{List, [], _∷_, _++_}
 use Prim.Native.Nat.{ℕ}
 use lib.IntN.{ℤ}
-use lib.Ieee.{Float, binary64, ofInt}
+use lib.Ieee.{Float}
 use Rattle.refusal.specs.Refusal.{numberOf}
 use Rattle.effects.specs.declared.Load.{Load}
 use Rattle.effects.specs.declared.Load.the-variants.{Dead, Live, Roof, Snow, Rain, Wind, Quake}
@@ -29,7 +29,7 @@ placeOf Quake = 7
 abbrev pub loads : List Load
 loads = Dead ∷ Live ∷ Roof ∷ Snow ∷ Rain ∷ Wind ∷ Quake ∷ []
 
--- the effect of one load
+-- 01, Effects and the 25 combinations: the effect of one load, as a double
 abbrev pub loadEffect : Load → Float → LoadEffect
 loadEffect l x = record { load = l; double = x }
 
@@ -48,19 +48,6 @@ listed e =
 -- 01, Effects and the 25 combinations: the seven as whole newtons, in the same order
 unfoldable pub newtonsOf : Newtons → List ℤ
 newtonsOf n = n .dead ∷ n .live ∷ n .roof ∷ n .snow ∷ n .rain ∷ n .wind ∷ n .quake ∷ []
-
--- whole newtons handed over as doubles
-unfoldable pub doublesOf : Newtons → Effects
-doublesOf n =
-    record {
-      dead = ofInt binary64 (n .dead);
-      live = ofInt binary64 (n .live);
-      roof = ofInt binary64 (n .roof);
-      snow = ofInt binary64 (n .snow);
-      rain = ofInt binary64 (n .rain);
-      wind = ofInt binary64 (n .wind);
-      quake = ofInt binary64 (n .quake);
-    }
 
 -- 01, Numbers by the place of checking: goes on with the whole number of an effect, or refuses it with the double as it came
 unfoldable pub ifGiven : LoadEffect → Told Float ℤ → (ℤ → Told LoadEffect (List ℤ)) → Told LoadEffect (List ℤ)

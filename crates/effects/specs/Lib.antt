@@ -1,3 +1,4 @@
--- The check of the seven effects, then what private functions ask.
+-- The definitions of the check of the seven effects.
 pub mod Check
-pub mod Sized
+pub mod theorems
+pub mod inner

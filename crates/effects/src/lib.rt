@@ -4,7 +4,7 @@ ghost use Rattle.refusal.specs.Refusal.{numberOf};
 ghost use Rattle.refusal.specs.Said.{refused};
 ghost use Rattle.newtons.specs.Effect.{limit};
 ghost use Rattle.effects.specs.Check.{placeOf, loadEffect, listed, newtonsOf, checkedOf, saidChecked};
-ghost use Rattle.effects.specs.Sized.{Seven};
+ghost use Rattle.effects.specs.inner.Sized.{Seven};
 use newtons::Effect;
 use refusal::Refusal;
 

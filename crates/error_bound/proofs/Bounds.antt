@@ -22,9 +22,9 @@ use Rattle.column.specs.Accepted.{lastFloor, firstCondition, entryNumber, joine
 use Rattle.column.specs.Column.{memberOf}
 use Rattle.figure.specs.Carried.{isFormulaLine, formulaLines, otherLines, carried, hasFloor, floorsOf, areaOf, influenceFrom, influenceOf}
 use Rattle.error_bound.specs.Claim.{formulaTotal, twentyP, NotBelowExact, BelowExactPlus, Within, exactShare, Bounded}
-use Rattle.figure.specs.Examples.{sampleSheet}
-use Rattle.error_bound.specs.Examples.{mistyped, garageAbove, Judged, judged, judgements, Holds, SaysJudged}
-use Rattle.error_bound.specs.Examples.{sampleFigure, unreducedSum, nothingChanged, refusedCounted, garageFigure}
+use Rattle.figure.specs.tables.Examples.{sampleSheet}
+use Rattle.error_bound.specs.tables.Examples.{mistyped, garageAbove, Judged, judged, judgements, Holds, SaysJudged}
+use Rattle.error_bound.specs.tables.Examples.{sampleFigure, unreducedSum, nothingChanged, refusedCounted, garageFigure}
 
 -- a test, and that it tells whether a claim holds
 record Test (claim : Type 0) : Type 0 where

@@ -18,8 +18,9 @@ use Rattle.column.specs.Accepted.{accepted}
 use Rattle.column.specs.Column.{columnOf, openedOf, after}
 use Rattle.figure.specs.Asked.{workingOf, askedOf, asked}
 use Rattle.error_bound.specs.Entries.{askedAfter}
-use Rattle.error_bound.specs.Claim.{Bounded, Answered, Claim, Demand3}
-use Rattle.column.specs.Sound.{InLimits}
+use Rattle.error_bound.specs.Claim.{Bounded, Answered, Claim}
+use Rattle.error_bound.specs.theorems.Demand3.{Demand3}
+use Rattle.column.specs.inner.Sound.{InLimits}
 use Rattle.lists.proofs.Lists.{all-keep}
 use Rattle.figure.proofs.Carried.{has-carried, has-some}
 use Rattle.column.proofs.Columns.{column-lines}

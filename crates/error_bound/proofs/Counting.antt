@@ -14,11 +14,11 @@ use Rattle.column.specs.declared.Column.{Column}
 use Rattle.column.specs.declared.Outcome.{Outcome}
 use Rattle.column.specs.Accepted.{entryNumber, joined}
 use Rattle.column.specs.Column.{columnOf, openedOf}
-use Rattle.column.specs.InTurn.{Holdable}
+use Rattle.column.specs.theorems.InTurn.{Holdable}
 use Rattle.column.proofs.Reach.{holdable-none, entered-column, joined-holdable, opened-column}
 use Rattle.error_bound.specs.declared.Refusals.{Refusals}
-use Rattle.error_bound.specs.Entries.{numbersFrom, refusedCount, firstNumber, firstPlace, refusalsOf, noRefusals, refusalsAfter}
-use Rattle.error_bound.specs.Counting.{numbersOn, notedOf, notedAll}
+use Rattle.error_bound.specs.Entries.{numbersFrom, refusedCount, firstNumber, firstPlace, refusalsOf, refusalsAfter}
+use Rattle.error_bound.specs.inner.Counting.{numbersOn, notedOf, notedAll, noRefusals}
 
 -- one entry more: accepted, refused as the first, and refused after others
 module _ (p : Refusals) (n place : ℕ) where
@@ -82,5 +82,5 @@ module _ (m : Member) where
 
   -- and nothing where opening is refused
   pub refusals-refused : (es : List Line) (n : ℕ) → 1 ≤ n → n ≡ openedOf m .number → noRefusals ≡ refusalsAfter m es
-  unfolding refusalsAfter
+  unfolding refusalsAfter refusalsOf refusedCount firstNumber firstPlace
   refusals-refused es n h e = rw (← e, not-zero h)

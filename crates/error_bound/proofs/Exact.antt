@@ -16,7 +16,8 @@ use Rattle.reduction.specs.Least.{sq}
 use Rattle.lists.proofs.Tests.{cases}
 use Rattle.lists.specs.Lists.{All, none, more, keep, total}
 use Rattle.member.specs.Line.{isFormula}
-use Rattle.reduction.specs.Share.{formulaShare, otherTwentieths, shareOf, AtMostOne}
+use Rattle.reduction.specs.Share.{formulaShare, otherTwentieths, shareOf}
+use Rattle.reduction.specs.theorems.Rounding.{AtMostOne}
 use Rattle.reduction.specs.Reduced.{reaches, reduced}
 use Rattle.reduction.proofs.Squares.{sq-mul, sq-five}
 use Rattle.reduction.proofs.Shares.{formula-at-most-one, other-within}
@@ -26,7 +27,7 @@ use Rattle.column.specs.declared.Member.{Member}
 use Rattle.figure.specs.Carried.{isFormulaLine, formulaLines, otherLines, floorsOf, areaOf, influenceOf}
 use Rattle.figure.specs.Figure.{lineFigure, figureOf}
 use Rattle.error_bound.specs.Claim.{formulaTotal, twentyP, NotBelowExact, BelowExactPlus, Within, exactShare, Bounded}
-use Rattle.column.specs.Sound.{InLimits}
+use Rattle.column.specs.inner.Sound.{InLimits}
 use Rattle.lists.proofs.Lists.{total-keep}
 use Rattle.error_bound.proofs.Roots.{root-le, below-sum}
 

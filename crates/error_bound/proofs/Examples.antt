@@ -15,10 +15,10 @@ use Rattle.column.specs.Column.{linesOf, columnOf, openedOf, enteredOf, after}
 use Rattle.figure.specs.Asked.{workingOf, askedOf}
 use Rattle.error_bound.specs.Entries.{askedAfter, numbersFrom, refusedCount, firstNumber, firstPlace, refusalsOf, refusalsAfter}
 use Rattle.error_bound.specs.Claim.{formulaTotal, twentyP}
-use Rattle.figure.specs.Examples.{heavyAbove, sampleSheet}
-use Rattle.error_bound.specs.Examples.{mixed, mistyped, garageAbove, examples, Says}
-use Rattle.error_bound.specs.Examples.{refusing-examples, SaysRefusing, carriedOf}
-use Rattle.error_bound.specs.Examples.{SampleNumbers, squaredOf, squares, SaysSquared}
+use Rattle.figure.specs.tables.Examples.{heavyAbove, sampleSheet}
+use Rattle.error_bound.specs.tables.Examples.{mixed, mistyped, garageAbove, examples, Says}
+use Rattle.error_bound.specs.tables.Examples.{refusing-examples, SaysRefusing, carriedOf}
+use Rattle.error_bound.specs.tables.Examples.{SampleNumbers, squaredOf, squares, SaysSquared}
 
 -- 01, Figures to check against and The sheet: every example, by computing it
 pub examples-hold : All Says examples

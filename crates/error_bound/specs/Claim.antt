@@ -18,9 +18,7 @@ use Rattle.column.specs.declared.Member.{Member}
 use Rattle.figure.specs.declared.Working.{Working}
 use Rattle.lists.specs.Lists.{total}
 use Rattle.figure.specs.Carried.{formulaLines, otherLines, carried, hasFloor, floorsOf, areaOf, influenceOf}
-use Rattle.column.specs.Accepted.{accepted}
-use Rattle.column.specs.Column.{openedOf, after}
-use Rattle.figure.specs.Asked.{asked}
+use Rattle.column.specs.Column.{openedOf}
 
 -- 01, Reduced load and figure: T, the sum of Lo × area over the formula lines carried
 unfoldable pub formulaTotal : List Line → ℕ
@@ -35,11 +33,12 @@ twentyP n ls = total (λ l. otherTwentieths (l .class) n * (l .load * l .area .0
 abbrev pub twentyE : ℕ → ℕ → ℕ → ℕ
 twentyE k T P20 = P20 + k * T
 
--- 01, Reduced load and figure: G = 20F − 20P − 5T, and G − 20A. Where the paper's number is negative, these are 0: below, E ≤ F
--- asks beside it that G is not negative, and of F < E + A the first case then holds, so that the second decides nothing
+-- 01, Reduced load and figure: G = 20F − 20P − 5T; 0 where that is negative: E ≤ F asks beside it that G is not negative
 abbrev pub G : ℕ → ℕ → ℕ → ℕ
 G T P20 F = 20 * F - (P20 + 5 * T)
 
+-- 01, Reduced load and figure: G − 20A; 0 where that is negative, so that of F < E + A the first case holds, and the second
+-- decides nothing
 abbrev pub GLess20A : ℕ → ℕ → ℕ → ℕ → ℕ
 GLess20A T P20 A F = 20 * F - (P20 + 5 * T + 20 * A)
 
@@ -80,9 +79,3 @@ pub record Answered (m : Member) (ls : List Line) (f : ℕ) (answer : Said Worki
 -- 01, Reduced load and figure: demand 3 of one answer, for a member that is opened and a floor that has an accepted line
 unfoldable pub Claim : Member → List Line → ℕ → Said Working → Type 0
 Claim m ls f answer = openedOf m .number ≡ 0 → hasFloor f ls ≡ true → Answered m ls f answer
-
--- 01, Reduced load and figure: demand 3, for every member, every list of entries, refused ones among them, and every floor:
--- the answer is what asking at the floor gives after the whole list, and the accepted lines follow from the member and the
--- entries alone. It is proved in proofs/Claim.antt
-abbrev pub Demand3 : Type 0
-Demand3 = (m : Member) (entries : List Line) (f : ℕ) → Claim m (accepted m entries) f (asked (after (openedOf m .column) entries) f)

@@ -27,30 +27,26 @@ unfoldable pub numbersFrom : Member → List Line → List Line → List ℕ
 numbersFrom m ls [] = []
 numbersFrom m ls (e ∷ es) = entryNumber m ls e ∷ numbersFrom m (joined m ls e) es
 
--- no part of the paper has it: how many of these numbers are not 0
+-- No part of the paper: how many of these numbers are not 0
 unfoldable pub refusedCount : List ℕ → ℕ
 refusedCount [] = 0
 refusedCount (n ∷ ns) = cond (eqb n 0) 0 1 + refusedCount ns
 
--- no part of the paper has it: the first number that is not 0; 0 where there is none
+-- No part of the paper: the first number that is not 0; 0 where there is none
 unfoldable pub firstNumber : List ℕ → ℕ
 firstNumber [] = 0
 firstNumber (n ∷ ns) = cond (eqb n 0) (firstNumber ns) n
 
--- no part of the paper has it: the place of that number, where the list's first has this place; 0 where there is none
+-- No part of the paper: the place of that number, where the list's first has this place; 0 where there is none
 unfoldable pub firstPlace : ℕ → List ℕ → ℕ
 firstPlace place [] = 0
 firstPlace place (n ∷ ns) = cond (eqb n 0) (firstPlace (place + 1) ns) place
 
--- no part of the paper has it: what is told of the refused entries; "places count from 1" (01, Member, line, floor)
+-- No part of the paper: what is told of the refused entries; "places count from 1" (01, Member, line, floor)
 unfoldable pub refusalsOf : List ℕ → Refusals
 refusalsOf numbers = record { count = refusedCount numbers; number = firstNumber numbers; place = firstPlace 1 numbers }
 
--- no part of the paper has it: where nothing was passed over
-abbrev pub noRefusals : Refusals
-noRefusals = record { count = 0; number = 0; place = 0 }
-
--- no part of the paper has it: what is told of the refused entries of a whole list; of none where opening is refused, since
+-- No part of the paper: what is told of the refused entries of a whole list; of none where opening is refused, since
 -- then no entry is looked at
 unfoldable pub refusalsAfter : Member → List Line → Refusals
-refusalsAfter m entries = cond {A = Refusals} (eqb (openedOf m .number) 0) (refusalsOf (numbersFrom m [] entries)) noRefusals
+refusalsAfter m entries = refusalsOf (cond (eqb (openedOf m .number) 0) (numbersFrom m [] entries) [])

@@ -1,5 +1,6 @@
--- The definitions of a whole list of entries and of demand 3; paper 01 in its order.
+-- The definitions of a whole list of entries and of the claim about it; paper 01 in its order.
 pub mod Entries
-pub mod Counting
 pub mod Claim
-pub mod Examples
+pub mod theorems
+pub mod tables
+pub mod inner

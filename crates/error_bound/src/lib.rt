@@ -8,7 +8,7 @@ ghost use Rattle.column.specs.Column.{memberOf, after, Reached};
 ghost use Rattle.figure.specs.Asked.{saidWorking};
 ghost use Rattle.column.specs.Line.{entriesOf};
 ghost use Rattle.error_bound.specs.Entries.{askedAfter, refusalsOf, refusalsAfter};
-ghost use Rattle.error_bound.specs.Counting.{numbersOn, notedOf};
+ghost use Rattle.error_bound.specs.inner.Counting.{numbersOn, notedOf};
 ghost use Rattle.error_bound.specs.Claim.{Claim};
 use column::Column;
 use column::Line;

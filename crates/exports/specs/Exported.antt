@@ -18,38 +18,41 @@ use Rattle.exports.specs.declared.columns.BungeroFigure.{BungeroFigure}
 use Rattle.exports.specs.declared.listed.BungeroListed.{BungeroListed}
 use Rattle.exports.specs.declared.reductions.BungeroReduced.{BungeroReduced}
 
--- the number of the layout of the structs, one more whenever it changes; no part of the paper
+-- No part of the paper: the number of the layout of the structs, one more whenever it changes
 abbrev pub layoutNumber : ℕ
 layoutNumber = 1
 
--- 01, Numbers by the place of checking: n, X and the figure with the number 0, or the number of the refusal with zeros
+-- 01, Numbers by the place of checking: n, X and the figure, or the number of the refusal; what is not given, which 01 leaves
+-- free, is 0
 unfoldable pub shownOf : Said Working → BungeroFigure
 shownOf (gives w) = record { number = 0; floors = w .floors; influence = w .influence .0; figure = w .figure }
 shownOf (refused n _) = record { number = n; floors = 0; influence = 0; figure = 0 }
 
--- 01, Member, line, floor: n, X and the figure with the number 0 and the place 0, or the number and place of the refusal with zeros
+-- 01, Member, line, floor: n, X and the figure, or the number and place of the refusal; what is not given, which 01 leaves
+-- free, is 0
 unfoldable pub shownListed : Told ℕ Working → BungeroListed
 shownListed (gives w) = record { number = 0; place = 0; floors = w .floors; influence = w .influence .0; figure = w .figure }
 shownListed (refused n place) = record { number = n; place = place; floors = 0; influence = 0; figure = 0 }
 
--- 01, Reduced load and figure: R with the number 0, or the number of the refusal with 0
+-- 01, Reduced load and figure: R, or the number of the refusal; what is not given, which 01 leaves free, is 0
 unfoldable pub shownReduced : Said ℕ → BungeroReduced
 shownReduced (gives r) = record { number = 0; reduced = r }
 shownReduced (refused n _) = record { number = n; reduced = 0 }
 
--- what stands where there is nothing to hand out; no part of the paper
+-- No part of the paper: the double where there is none to hand out
 abbrev pub plusZero : Float
 plusZero = fin false 0 (pos 0)
 
+-- No part of the paper: the row where there is none to hand out
 abbrev pub noRow : GoverningRow
 noRow = record { row = 0; tenths = pos 0; double = plusZero }
 
--- 01, Effects and the 25 combinations: the governing rows with the number 0, or the number of the refusal, which effect it is, and its double
+-- 01, Effects and the 25 combinations: the governing rows with the number 0, or the number, which effect it is, and its double
 unfoldable pub shownCombined : Told LoadEffect Governing → BungeroCombined
 shownCombined (gives g) = record { number = 0; place = 0; double = plusZero; governing = g }
 shownCombined (refused n e) = record { number = n; place = placeOf (e .load); double = e .double; governing = record { greatest = noRow; least = noRow } }
 
--- the same for seven effects; no part of the paper
+-- No part of the paper: the seven effects where there are none to hand out
 abbrev pub noNewtons : Newtons
 noNewtons = record { dead = pos 0; live = pos 0; roof = pos 0; snow = pos 0; rain = pos 0; wind = pos 0; quake = pos 0 }
 
@@ -64,7 +67,7 @@ pub record HandedOut : Type 0 where
 unfoldable pub handedOut : BungeroChecked → HandedOut
 handedOut r = record { number = r .number; place = r .place; double = r .double; newtons = newtonsOf (r .newtons) }
 
--- 01, Effects and the 25 combinations: the whole newtons with the number 0, or the number of the refusal, which effect it is, and its double
+-- 01, Effects and the 25 combinations: the whole newtons with the number 0, or the number, which effect it is, and its double
 unfoldable pub shownChecked : Told LoadEffect (List ℤ) → HandedOut
 shownChecked (gives zs) = record { number = 0; place = 0; double = plusZero; newtons = zs }
 shownChecked (refused n e) = record { number = n; place = placeOf (e .load); double = e .double; newtons = newtonsOf noNewtons }

@@ -12,7 +12,7 @@ use Rattle.column.specs.Line.{entriesOf}
 use Rattle.figure.specs.Carried.{isFormulaLine, formulaLines, carried, hasFloor, floorsOf, areaOf, influenceFrom, influenceOf}
 use Rattle.figure.specs.Figure.{lineFigure, figureOf}
 use Rattle.figure.specs.Asked.{workingOf, askedOf}
-use Rattle.figure.specs.Examples.{heavyAbove, sampleSheet, carsAbove, examples, Says}
+use Rattle.figure.specs.tables.Examples.{heavyAbove, sampleSheet, carsAbove, examples, Says}
 
 -- 01, Figures to check against, The sheet and Wrong turns: every example
 pub examples-hold : All Says examples

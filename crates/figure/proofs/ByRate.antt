@@ -20,12 +20,12 @@ use Rattle.reduction.proofs.Fits.{formula-class}
 use Rattle.reduction.proofs.Scales.{Scaled, line-scaled, scale-within}
 use Rattle.column.specs.declared.Line.{Line}
 use Rattle.column.specs.Line.{unpacked, keyOf}
-use Rattle.column.specs.Sound.{InLimits}
+use Rattle.column.specs.inner.Sound.{InLimits}
 use Rattle.figure.specs.declared.rates.Rate.{Rate}
 use Rattle.figure.specs.declared.rates.Shares.{Shares}
 use Rattle.figure.specs.Carried.{isFormulaLine}
 use Rattle.figure.specs.Figure.{lineFigure}
-use Rattle.figure.specs.Rates.{twentiethsRate, rootRate, rateOf, formulaLoad, figureBy}
+use Rattle.figure.specs.inner.Rates.{twentiethsRate, rootRate, rateOf, formulaLoad, figureBy}
 use Rattle.figure.proofs.Most.{line-most}
 
 -- what a rate gives for a load, and that it is not in doubt

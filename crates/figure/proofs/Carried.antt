@@ -14,7 +14,7 @@ use Rattle.lists.proofs.Tests.{cases}
 use Rattle.lists.proofs.Lists.{keep-passed, keep-failed, total-keep, all-so}
 use Rattle.column.specs.declared.Line.{Line}
 use Rattle.figure.specs.Carried.{isFormulaLine, formulaLines, carried, hasFloor, floorsOf, areaOf}
-use Rattle.figure.specs.Totals.{formulaArea, At, DownTo, Below}
+use Rattle.figure.specs.inner.Totals.{formulaArea, At, DownTo, Below}
 
 -- a line of which the floor is at most f is carried at f, and no other
 carry : (f : ℕ) (l : Line) (ls : List Line) → l .floor ≤ f → carried f (l ∷ ls) ≡ l ∷ carried f ls

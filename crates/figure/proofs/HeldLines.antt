@@ -10,9 +10,9 @@ use lib.ListN.{length}
 use Rattle.lists.specs.Lists.{All, total}
 use Rattle.lists.proofs.Lists.{all-first, all-front, all-back, all-more, total-append}
 use Rattle.column.specs.declared.Line.{Line}
-use Rattle.column.specs.Sound.{InLimits, Held, lineAt, linesBefore, linesBetween}
+use Rattle.column.specs.inner.Sound.{InLimits, Held, lineAt, linesBefore, linesBetween}
 use Rattle.column.proofs.Lines.{between-none, between-next, between-split, between-more}
-use Rattle.figure.specs.Totals.{SumOf, DownTo, NotAbove, Ordered}
+use Rattle.figure.specs.inner.Totals.{SumOf, DownTo, NotAbove, Ordered}
 use Rattle.figure.proofs.Order.{ordered-front, ordered-before, ordered-after}
 
 module _ {places : List ℕ} {count : ℕ} (ok : Held places count) where

@@ -21,8 +21,8 @@ use Rattle.figure.specs.Carried.{isFormulaLine, formulaLines, carried, h
 use Rattle.figure.specs.Figure.{lineFigure, figureOf}
 use Rattle.column.specs.Column.{linesOf, Reached}
 use Rattle.figure.specs.Asked.{workingOf, askedOf, asked}
-use Rattle.figure.specs.Most.{Most}
-use Rattle.column.specs.Sound.{InLimits, Sound}
+use Rattle.figure.specs.theorems.Most.{Most}
+use Rattle.column.specs.inner.Sound.{InLimits, Sound}
 use Rattle.lists.proofs.Tests.{cases}
 use Rattle.lists.proofs.Lists.{keep-length, all-keep, all-so, total-most}
 use Rattle.column.proofs.Lines.{lines-length}

@@ -15,7 +15,7 @@ use Rattle.column.specs.Accepted.{lastFloor, entryNumber, accepted}
 use Rattle.column.specs.Column.{linesOf, Reached}
 use Rattle.column.proofs.Columns.{column-lines}
 use Rattle.column.proofs.Reach.{not-above, accepted-all, accepted-holdable, reached-column}
-use Rattle.figure.specs.Totals.{DownTo, NotAbove, Ordered, empty, first}
+use Rattle.figure.specs.inner.Totals.{DownTo, NotAbove, Ordered, empty, first}
 
 ordered-rest : {l : Line} {ls : List Line} → Ordered (l ∷ ls) → Ordered ls
 ordered-rest (first a o) = o

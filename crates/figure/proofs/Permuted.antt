@@ -8,7 +8,8 @@ use native.Mathlib.Decide.{ℕ-discrete}
 use native.Mathlib.Omega.{arith}
 use lib.Dec.{eqb}
 use borrow.Author.Tests.{ne-eqb}
-use Rattle.lists.specs.Lists.{some, Permuted}
+use Rattle.lists.specs.Lists.{some}
+use Rattle.lists.specs.theorems.Orders.{Permuted}
 use Rattle.lists.proofs.Permuted.{permuted-same, some-permuted, total-permuted, keep-permuted}
 use Rattle.column.specs.declared.Line.{Line}
 use Rattle.column.specs.declared.Member.{Member}

@@ -8,13 +8,13 @@ use borrow.Author.Tests.{lt-leb}
 use Rattle.lists.proofs.Tests.{cases}
 use Rattle.reduction.specs.declared.InfluenceArea.{InfluenceArea}
 use Rattle.reduction.specs.declared.share.Share.the-variants.{Twentieths}
-use Rattle.reduction.specs.Share.{oneFloor, otherTwentieths}
+use Rattle.reduction.specs.Share.{oneFloor, otherTwentieths, shareOf}
 use Rattle.reduction.proofs.Twentieths.{share-other, share-clamped}
 use Rattle.column.specs.declared.Line.{Line}
 use Rattle.figure.specs.declared.rates.Shares.{Shares}
 use Rattle.figure.specs.Carried.{isFormulaLine}
-use Rattle.figure.specs.Figure.{shareOfLine, lineFigure}
-use Rattle.figure.specs.Rates.{sharesAt, Shared, figureBy}
+use Rattle.figure.specs.Figure.{lineFigure}
+use Rattle.figure.specs.inner.Rates.{sharesAt, Shared, figureBy}
 
 -- shares that are those of some n and X
 pub shared-at : (n : ℕ) (x : InfluenceArea) {s : Shares} → s ≡ sharesAt n x → Shared s
@@ -27,11 +27,11 @@ other-below class n h = rw (lt-leb n 1 h)
 
 -- from the second floor on, where the formula lines' share is clamped, a line's share has neither n nor X
 share-below : (s : Shares) (l : Line) → Shared s → 2 ≤ s .floors → 0 < s .clamped
-    → shareOfLine (s .floors) (s .influence) l ≡ Twentieths (cond (isFormulaLine l) (s .clamped) (otherTwentieths (l .class) 2))
+    → shareOf (l .load) (l .class) (s .floors) (s .influence) ≡ Twentieths (cond (isFormulaLine l) (s .clamped) (otherTwentieths (l .class) 2))
 unfolding sharesAt isFormulaLine
 share-below s l k h some =
     let clamped = ap (λ (t : Shares). t .clamped) k in
-    cases (λ (b : Bool). shareOfLine (s .floors) (s .influence) l ≡ Twentieths (cond b (s .clamped) (otherTwentieths (l .class) 2))) (isFormulaLine l)
+    cases (λ (b : Bool). shareOf (l .load) (l .class) (s .floors) (s .influence) ≡ Twentieths (cond b (s .clamped) (otherTwentieths (l .class) 2))) (isFormulaLine l)
     (λ q. share-clamped (l .load) (l .class) (s .floors) (s .influence) q (omega arith) ∙ ap Twentieths (sym clamped))
     (λ q. share-other (l .load) (l .class) (s .floors) (s .influence) q ∙ ap Twentieths (other-below (l .class) (s .floors) h))
 

@@ -15,7 +15,7 @@ use Rattle.column.specs.declared.Line.{Line}
 use Rattle.column.specs.declared.Member.{Member}
 use Rattle.column.specs.declared.Column.{Column}
 use Rattle.column.specs.Column.{linesOf, columnFrom, Reached}
-use Rattle.column.specs.Sound.{lineAt, linesBefore, linesBetween}
+use Rattle.column.specs.inner.Sound.{lineAt, linesBefore, linesBetween}
 use Rattle.column.proofs.Lines.{between-none, between-next, between-split}
 use Rattle.column.proofs.Reach.{sound}
 use Rattle.figure.specs.declared.rates.Shares.{Shares}
@@ -25,9 +25,9 @@ use Rattle.figure.specs.Figure.{figureOf}
 use Rattle.figure.specs.Asked.{workingOf, askedOf, asked}
 use Rattle.figure.specs.Lowest.{lowestFigure}
 use Rattle.figure.specs.Workings.{workingNumbers, workingsOf}
-use Rattle.figure.specs.Totals.{formulaArea, SumOf, At, DownTo, Below, NotAbove}
-use Rattle.figure.specs.Rates.{sharesAt, figureBy}
-use Rattle.figure.specs.Descent.{FloorEndOf, threePut, Descended, NextOf}
+use Rattle.figure.specs.inner.Totals.{formulaArea, SumOf, At, DownTo, Below, NotAbove}
+use Rattle.figure.specs.inner.Rates.{sharesAt, figureBy}
+use Rattle.figure.specs.inner.Descent.{FloorEndOf, threePut, Descended, NextOf}
 use Rattle.figure.proofs.Carried.{Other, has-none, has-in, floors-run, carried-front, area-total}
 use Rattle.figure.proofs.Order.{reached-ordered}
 use Rattle.figure.proofs.Lowest.{lowest-all}

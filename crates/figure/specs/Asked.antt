@@ -14,10 +14,6 @@ use Rattle.figure.specs.Carried.{carried, hasFloor, floorsOf, influenceO
 use Rattle.figure.specs.Figure.{figureOf}
 use Rattle.column.specs.Column.{linesOf}
 
--- 01, Member, line, floor and Reduced load and figure: n, X "in dm²" and the figure, as numbers
-abbrev pub workingFrom : ℕ → ℕ → ℕ → Working
-workingFrom n x figure = record { floors = n; influence = record { 0 = x }; figure = figure }
-
 -- 01, Member, line, floor and Reduced load and figure: n, X and the figure at floor f, for a member with these accepted lines
 unfoldable pub workingOf : Member → List Line → ℕ → Working
 workingOf m ls f =

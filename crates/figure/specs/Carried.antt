@@ -16,10 +16,11 @@ use Rattle.lists.specs.Lists.{keep, some, total}
 unfoldable pub isFormulaLine : Line → Bool
 isFormulaLine l = isFormula (l .load) (l .class)
 
--- 01, Member, line, floor: the formula lines, and the others
+-- 01, Member, line, floor: the formula lines
 unfoldable pub formulaLines : List Line → List Line
 formulaLines ls = keep isFormulaLine ls
 
+-- 01, Reduced load and figure: "the other lines"
 unfoldable pub otherLines : List Line → List Line
 otherLines ls = keep (λ l. not (isFormulaLine l)) ls
 

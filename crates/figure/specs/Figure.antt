@@ -3,7 +3,6 @@
 use mathlib.Core.List.{List}
 use Prim.Native.Nat.{ℕ, _*_}
 use Rattle.reduction.specs.declared.InfluenceArea.{InfluenceArea}
-use Rattle.reduction.specs.declared.share.Share.{Share}
 use Rattle.reduction.specs.Share.{shareOf}
 use Rattle.reduction.specs.Reduced.{reduced}
 use Rattle.column.specs.declared.Line.{Line}
@@ -11,13 +10,9 @@ use Rattle.column.specs.declared.Member.{Member}
 use Rattle.lists.specs.Lists.{total}
 use Rattle.figure.specs.Carried.{floorsOf, influenceOf}
 
--- 01, Reduced load and figure: the share of a line, at n floors and the influence area x
-abbrev pub shareOfLine : ℕ → InfluenceArea → Line → Share
-shareOfLine n x l = shareOf (l .load) (l .class) n x
-
 -- 01, Reduced load and figure: R × area of a line, in hundredths of a newton
 unfoldable pub lineFigure : ℕ → InfluenceArea → Line → ℕ
-lineFigure n x l = reduced (shareOfLine n x l) (l .load) * l .area .0
+lineFigure n x l = reduced (shareOf (l .load) (l .class) n x) (l .load) * l .area .0
 
 -- 01, Reduced load and figure: the figure, the sum of R × area over the lines carried
 unfoldable pub figureOf : Member → List Line → ℕ

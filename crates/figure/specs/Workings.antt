@@ -7,7 +7,7 @@ use Rattle.column.specs.declared.Column.{Column}
 use Rattle.figure.specs.declared.Working.{Working}
 use Rattle.figure.specs.Asked.{asked}
 
--- 01, Member, line, floor: n, X and the figure as three numbers. No part of the paper: zeros where no accepted line has the floor
+-- No part of the paper: n, X and the figure as three numbers; where no line has the floor, zeros
 unfoldable pub workingNumbers : Said Working → List ℕ
 workingNumbers (gives w) = w .floors ∷ (w .influence .0 ∷ (w .figure ∷ []))
 workingNumbers (refused n _) = 0 ∷ (0 ∷ (0 ∷ []))

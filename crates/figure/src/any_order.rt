@@ -2,7 +2,7 @@
 ghost use mathlib.Core.Path.{_≡_};
 ghost use mathlib.Core.Bool.{cond};
 ghost use Prim.Native.Nat.{_≤_};
-ghost use Rattle.column.specs.Sound.{Held, linesBefore};
+ghost use Rattle.column.specs.inner.Sound.{Held, linesBefore};
 ghost use Rattle.figure.specs.Carried.{floorsOf};
 use crate::lines;
 use column::Places;

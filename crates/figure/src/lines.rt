@@ -3,7 +3,7 @@ ghost use mathlib.Core.Path.{_≡_};
 ghost use Prim.Native.Nat.{_<_};
 ghost use lib.ListN.{length};
 ghost use Rattle.column.specs.Line.{mostLines};
-ghost use Rattle.column.specs.Sound.{lineAt};
+ghost use Rattle.column.specs.inner.Sound.{lineAt};
 use column::Line;
 use column::Places;
 

@@ -6,9 +6,9 @@ ghost use Rattle.member.specs.Between.{between};
 ghost use Rattle.reduction.specs.Share.{otherTwentieths};
 ghost use Rattle.reduction.specs.Scale.{scaleOf};
 ghost use Rattle.column.specs.Line.{unpacked};
-ghost use Rattle.column.specs.Sound.{InLimits};
+ghost use Rattle.column.specs.inner.Sound.{InLimits};
 ghost use Rattle.figure.specs.Carried.{isFormulaLine, influenceFrom};
-ghost use Rattle.figure.specs.Rates.{twentiethsRate, rateOf, sharesAt, Shared, formulaLoad, figureBy};
+ghost use Rattle.figure.specs.inner.Rates.{twentiethsRate, rateOf, sharesAt, Shared, formulaLoad, figureBy};
 use column::Member;
 use member::TributaryArea;
 use reduction::InfluenceArea;
@@ -119,8 +119,7 @@ fn searched_load(load: u64, shares: Shares) -> u64
     ensures { λ r. ⌜ r ≡ formulaLoad shares load ⌝ }
 {
     let x = shares.influence;
-    let estimate = reduction::root_estimate(shares.floors, x);
-    let answer = reduction::reduced_load_from(estimate, load, 1, shares.floors, x);
+    let answer = reduction::reduced_load(load, 1, shares.floors, x);
     match answer {
         Answer::Gives(reduced) => reduced,
         Answer::Refused(_) => 0,

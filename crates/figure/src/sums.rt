@@ -2,9 +2,9 @@
 ghost use mathlib.Core.Path.{_≡_};
 ghost use Prim.Native.Nat.{_≤_};
 ghost use Rattle.column.specs.Line.{unpacked};
-ghost use Rattle.column.specs.Sound.{InLimits, Held};
-ghost use Rattle.figure.specs.Totals.{formulaArea, SumOf};
-ghost use Rattle.figure.specs.Rates.{Shared, figureBy};
+ghost use Rattle.column.specs.inner.Sound.{InLimits, Held};
+ghost use Rattle.figure.specs.inner.Totals.{formulaArea, SumOf};
+ghost use Rattle.figure.specs.inner.Rates.{Shared, figureBy};
 use crate::rates;
 use crate::rates::Shares;
 use column::Places;

@@ -5,7 +5,8 @@ use mathlib.Core.Bool.{Bool, true, false, cond, _||_, or-assoc, or-comm}
 use mathlib.Core.List.{List, _∷_, List·Permᴰ·nil, List·Permᴰ·cons, List·Permᴰ·swap, List·Permᴰ·trans, Permᴰ·refl}
 use Prim.Native.Nat.{ℕ, _+_}
 use native.Mathlib.Omega.{arith}
-use Rattle.lists.specs.Lists.{All, none, more, keep, some, total, Permuted}
+use Rattle.lists.specs.Lists.{All, none, more, keep, some, total}
+use Rattle.lists.specs.theorems.Orders.{Permuted}
 
 module _ {A : Type 0} where
   -- a value is the same where one element more in front, and two exchanged, keep it the same

@@ -1,2 +1,3 @@
 -- What definitions say of a list.
 pub mod Lists
+pub mod theorems

@@ -28,6 +28,6 @@ table4·2 =
 unfoldable pub tableFactor : ℕ → ℕ
 tableFactor code = getD (0 ∷ table4·2) code 0
 
--- 01, Member, line, floor: K; the refusal 1 where the code is not 1 to 12
+-- 01, Member, line, floor and Numbers by the place of checking: K; the refusal 1 where the code is not 1 to 12
 unfoldable pub factorOf : ℕ → Said ℕ
 factorOf code = cond (between 1 12 code) (gives (tableFactor code)) (refused 1 nothing)

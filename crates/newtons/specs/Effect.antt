@@ -35,13 +35,13 @@ valueOf nan = notWhole
 valueOf (inf s) = notWhole
 valueOf (fin s m e) = fraction s (m * up e) (down e)
 
--- no part of the paper has it: a whole number as 64 bits can hold it, itself below 2^53 in size, and else that it is not below,
--- from where on every double is whole and few fit
+-- No part of the paper: a whole number as 64 bits can hold it, itself below 2^53 in size, and else that it is not below, from
+-- where on every double is whole and few fit
 pub data HeldWhole : Type 0 where
   itself : ℤ → HeldWhole
   large : HeldWhole
 
--- 01, Numbers by the place of checking: 8, "not a whole number", told of the value alone
+-- 01, Numbers by the place of checking: 8, "not a whole number", told of the value alone; the cut at 2^53 is not of the paper
 unfoldable pub heldOf : Value → Said HeldWhole
 heldOf (whole z) = gives (cond (ltb (natAbs z) (2 ^ 53)) (itself z) large)
 heldOf notWhole = refused 8 nothing

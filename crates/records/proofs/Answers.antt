@@ -20,14 +20,14 @@ use Rattle.column.specs.Accepted.{entryNumber, accepted}
 use Rattle.column.specs.Column.{columnOf, openedOf, enteredOf, after}
 use Rattle.figure.specs.Asked.{workingOf, askedOf}
 use Rattle.error_bound.specs.Claim.{Claim}
-use Rattle.column.specs.Entering.{NoneRefused, none, more, Stops}
+use Rattle.column.specs.theorems.Entering.{NoneRefused, none, more, Stops}
 use Rattle.column.proofs.Columns.{column-lines}
-use Rattle.column.specs.InTurn.{Holdable}
+use Rattle.column.specs.theorems.InTurn.{Holdable}
 use Rattle.column.proofs.Reach.{holdable-none, holdable-more, entered-accepted, opened-column}
 use Rattle.column.proofs.Entering.{every-list}
 use Rattle.error_bound.proofs.Claim.{claimed}
 use Rattle.records.specs.Listed.{atPlace, listedFrom, listedOf, Bounds}
-use Rattle.records.specs.AsEntered.{AtOpening, AtFirst, AsEntered, FigureOfAll}
+use Rattle.records.specs.theorems.AsEntered.{AtOpening, AtFirst, AsEntered, FigureOfAll}
 
 -- an answer that refuses gives no figure
 no-figure : {P : Type 0} {t : Told ℕ Working} {n place : ℕ} {w : Working} → t ≡ refused n place → t ≡ gives w → P

@@ -13,9 +13,9 @@ use Rattle.column.specs.Accepted.{lastFloor, firstCondition, entryNumber}
 use Rattle.column.specs.Column.{openedOf}
 use Rattle.figure.specs.Asked.{workingOf, askedOf}
 use Rattle.column.specs.Line.{entriesOf}
-use Rattle.figure.specs.Examples.{heavyAbove, sampleSheet}
+use Rattle.figure.specs.tables.Examples.{heavyAbove, sampleSheet}
 use Rattle.records.specs.Listed.{atPlace, listedFrom, listedOf}
-use Rattle.records.specs.Examples.{mistyped, examples, Says}
+use Rattle.records.specs.tables.Examples.{mistyped, examples, Says}
 
 -- 01, Figures to check against, The sheet, and Member, line, floor: every example, by computing it
 pub examples-hold : All Says examples

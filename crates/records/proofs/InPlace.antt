@@ -14,15 +14,16 @@ use Rattle.column.specs.declared.Member.{Member}
 use Rattle.column.specs.declared.Column.{Column}
 use Rattle.column.specs.Accepted.{entryNumber}
 use Rattle.column.specs.declared.Outcome.{Outcome}
-use Rattle.column.specs.Column.{noPlaces, columnOf, openedOf, enteredOf, Reached}
+use Rattle.column.specs.inner.Sound.{noPlaces}
+use Rattle.column.specs.Column.{columnOf, openedOf, enteredOf, Reached}
 use Rattle.column.proofs.Columns.{column-lines}
-use Rattle.column.specs.InTurn.{Holdable}
+use Rattle.column.specs.theorems.InTurn.{Holdable}
 use Rattle.column.proofs.Reach.{holdable-none, holdable-more, entered-refused, opened-code, opened-column, opened-refused, reached-opened}
 use Rattle.figure.specs.declared.Working.{Working}
 use Rattle.figure.specs.Asked.{asked, askedOf}
 use Rattle.records.specs.declared.entering.Entered.{Entered}
 use Rattle.records.specs.Listed.{atPlace, listedFrom, listedOf}
-use Rattle.records.specs.Entering.{Sits, outcomeOf, enteredAll, placeOf, answerOf}
+use Rattle.records.specs.inner.Entering.{Sits, outcomeOf, enteredAll, placeOf, answerOf}
 use Rattle.records.proofs.Answers.{listed-opened, listed-unopened, column-entered, listed-on, listed-stop}
 
 module _ (o : Outcome) where

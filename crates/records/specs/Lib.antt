@@ -1,5 +1,5 @@
--- The list call, and what entering its lines in place keeps.
+-- The definitions of the list call.
 pub mod Listed
-pub mod AsEntered
-pub mod Examples
-pub mod Entering
+pub mod theorems
+pub mod tables
+pub mod inner

@@ -2,8 +2,9 @@
 ghost use mathlib.Core.Path.{_≡_};
 ghost use mathlib.Core.Bool.{cond};
 ghost use lib.Dec.{eqb};
-ghost use Rattle.column.specs.Column.{noPlaces, memberOf, columnFrom, openedOf, enteredOf, Reached};
-ghost use Rattle.records.specs.Entering.{Sits, outcomeOf, enteredAll};
+ghost use Rattle.column.specs.inner.Sound.{noPlaces};
+ghost use Rattle.column.specs.Column.{memberOf, columnFrom, openedOf, enteredOf, Reached};
+ghost use Rattle.records.specs.inner.Entering.{Sits, outcomeOf, enteredAll};
 use column::LINES;
 use column::Line;
 use column::Member;

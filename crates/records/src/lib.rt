@@ -2,7 +2,7 @@
 ghost use mathlib.Core.Path.{_≡_};
 ghost use Rattle.column.specs.Column.{memberOf};
 ghost use Rattle.figure.specs.Asked.{saidWorking};
-ghost use Rattle.records.specs.Entering.{Sits, outcomeOf, placeOf, answerOf};
+ghost use Rattle.records.specs.inner.Entering.{Sits, outcomeOf, placeOf, answerOf};
 ghost use Rattle.records.specs.Listed.{atPlace, listedOf, saidListed, Bounds};
 use column::Line;
 use column::Member;

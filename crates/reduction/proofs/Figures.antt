@@ -14,7 +14,7 @@ use Rattle.lists.specs.Lists.{All, none, more}
 use Rattle.member.specs.Line.{isFormula}
 use Rattle.reduction.specs.Share.{dm², oneFloor, rootAtLeast, rootAtMost, leastTwentieths, formulaShare, otherTwentieths, shareOf}
 use Rattle.reduction.specs.Reduced.{reaches, reduced, reducedOf}
-use Rattle.reduction.specs.Figures.{at, any, uncapped, Row, row, figures, Says}
+use Rattle.reduction.specs.tables.Figures.{at, any, uncapped, Row, row, figures, Says}
 
 -- an answer gives this number
 is : ℕ → Said ℕ → Bool

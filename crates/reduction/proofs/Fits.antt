@@ -12,9 +12,10 @@ use Rattle.reduction.specs.declared.share.Share.{Share}
 use Rattle.reduction.specs.declared.share.Share.the-variants.{Twentieths, Root}
 use Rattle.reduction.specs.Least.{sq}
 use Rattle.member.specs.Line.{isFormula}
-use Rattle.reduction.specs.Share.{rootAtLeast, rootAtMost, leastTwentieths, formulaShare, shareOf, AtMostOne}
+use Rattle.reduction.specs.Share.{rootAtLeast, rootAtMost, leastTwentieths, formulaShare, shareOf}
+use Rattle.reduction.specs.theorems.Rounding.{AtMostOne}
 use Rattle.reduction.specs.Reduced.{reaches, reduced}
-use Rattle.reduction.specs.ShareBounds.{Bounds, Fit}
+use Rattle.reduction.specs.inner.ShareBounds.{Bounds, Fit}
 use Rattle.reduction.proofs.Squares.{sq-le}
 use Rattle.reduction.proofs.Root.{cap-last}
 use Rattle.reduction.proofs.Shares.{formula-cases, share-cases, least-within, other-within}

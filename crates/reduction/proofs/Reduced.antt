@@ -12,8 +12,10 @@ use Rattle.reduction.specs.declared.InfluenceArea.{InfluenceArea}
 use Rattle.reduction.specs.declared.share.Share.{Share}
 use Rattle.reduction.specs.declared.share.Share.the-variants.{Twentieths, Root}
 use Rattle.member.specs.Between.{between}
-use Rattle.reduction.specs.Share.{leastTwentieths, shareOf, AtMostOne}
-use Rattle.reduction.specs.Reduced.{reaches, reduced, Least, Clamped, reducedOf}
+use Rattle.reduction.specs.Share.{leastTwentieths, shareOf}
+use Rattle.reduction.specs.theorems.Rounding.{AtMostOne}
+use Rattle.reduction.specs.Reduced.{reaches, reduced, reducedOf}
+use Rattle.reduction.specs.theorems.Rounding.{Least, Clamped}
 use Rattle.reduction.proofs.Squares.{sq-le}
 use Rattle.reduction.proofs.Least.{found, none}
 use Rattle.reduction.proofs.Root.{reaches-root, reaches-twentieths, not-at-least, not-at-most}

@@ -18,7 +18,7 @@ use Rattle.reduction.specs.Least.{sq}
 use Rattle.reduction.specs.Share.{clampedShare, clampedOf, shareOf}
 use Rattle.reduction.specs.Reduced.{reaches, reduced}
 use Rattle.reduction.specs.Scale.{rootScale, shareScale, scaleOf}
-use Rattle.reduction.specs.ShareBounds.{Fit}
+use Rattle.reduction.specs.inner.ShareBounds.{Fit}
 use Rattle.reduction.proofs.Squares.{sq-le, sq-le⁻¹, sq-lt⁻¹, sq-mul, under-square}
 use Rattle.reduction.proofs.Least.{found, none}
 use Rattle.reduction.proofs.Root.{regroup}

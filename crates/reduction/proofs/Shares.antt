@@ -10,7 +10,8 @@ use borrow.Author.Tests.{le-leb, lt-leb}
 use Rattle.reduction.specs.declared.InfluenceArea.{InfluenceArea}
 use Rattle.reduction.specs.declared.share.Share.{Share}
 use Rattle.reduction.specs.declared.share.Share.the-variants.{Twentieths, Root}
-use Rattle.reduction.specs.Share.{oneFloor, rootAtLeast, rootAtMost, leastTwentieths, formulaShare, heavyTwentieths, otherTwentieths, shareOf, AtMostOne}
+use Rattle.reduction.specs.Share.{oneFloor, rootAtLeast, rootAtMost, leastTwentieths, formulaShare, heavyTwentieths, otherTwentieths, shareOf}
+use Rattle.reduction.specs.theorems.Rounding.{AtMostOne}
 use Rattle.member.specs.Line.{isFormula}
 use Rattle.reduction.proofs.Root.{not-at-least, cap-last}
 

@@ -10,7 +10,8 @@ use Rattle.reduction.specs.declared.InfluenceArea.{InfluenceArea}
 use Rattle.reduction.specs.declared.share.Share.{Share}
 use Rattle.reduction.specs.declared.share.Share.the-variants.{Twentieths, Root}
 use Rattle.member.specs.Line.{isFormula}
-use Rattle.reduction.specs.Share.{formulaShare, clampedShare, clampedOf, otherTwentieths, shareOf, AtMostOne}
+use Rattle.reduction.specs.Share.{formulaShare, clampedShare, clampedOf, otherTwentieths, shareOf}
+use Rattle.reduction.specs.theorems.Rounding.{AtMostOne}
 use Rattle.reduction.specs.Reduced.{reaches, reduced}
 use Rattle.reduction.proofs.Shares.{formula-at-most-one}
 use Rattle.reduction.proofs.Reduced.{reduced-reaches, at-most}

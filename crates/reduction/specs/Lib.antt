@@ -1,8 +1,8 @@
--- The definitions of the reduction; paper 01 in its order, then where the search begins, the scale that spares it, and what private functions ask.
+-- The definitions of the reduction: the paper's in its order, then the scale that spares most searches.
 pub mod Least
 pub mod Share
 pub mod Reduced
-pub mod Figures
-pub mod Estimate
 pub mod Scale
-pub mod ShareBounds
+pub mod theorems
+pub mod tables
+pub mod inner

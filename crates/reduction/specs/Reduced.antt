@@ -1,8 +1,7 @@
 -- Paper 01, "Reduced load and figure": the reduced load R, by whole numbers and squares.
 -- Assumes nothing.
-use mathlib.Core.Path.{_≡_}
-use mathlib.Core.Bool.{Bool, true, false, cond, _&&_, _||_}
-use Prim.Native.Nat.{ℕ, _*_, _-_, _<_}
+use mathlib.Core.Bool.{Bool, cond, _&&_}
+use Prim.Native.Nat.{ℕ, _*_, _-_}
 use lib.Dec.{leb}
 use Rattle.refusal.specs.Said.{Said, gives, refused, nothing}
 use Rattle.reduction.specs.declared.InfluenceArea.{InfluenceArea}
@@ -10,7 +9,7 @@ use Rattle.reduction.specs.declared.share.Share.{Share}
 use Rattle.reduction.specs.declared.share.Share.the-variants.{Twentieths, Root}
 use Rattle.member.specs.Between.{between}
 use Rattle.reduction.specs.Least.{sq, leastFrom}
-use Rattle.reduction.specs.Share.{leastTwentieths, formulaShare, shareOf}
+use Rattle.reduction.specs.Share.{shareOf}
 
 -- 01, Reduced load and figure: R is not below share × Lo; with the root, 4R ≥ Lo and 25 × X × (4R − Lo)² ≥ (914 × Lo)²
 unfoldable pub reaches : Share → ℕ → ℕ → Bool
@@ -20,18 +19,6 @@ reaches (Root x) load r = leb load (4 * r) && leb (sq (914 * load)) (25 * x .0 *
 -- 01, Reduced load and figure: R, the least whole number not below share × Lo. No share at 1 dm² or more passes 46
 unfoldable pub reduced : Share → ℕ → ℕ
 reduced s load = leastFrom (reaches s load) 0 (46 * load)
-
--- 01, Reduced load and figure: r is the least whole number not below share × Lo
-pub record Least (s : Share) (load r : ℕ) : Type 0 where
-  pub reached : reaches s load r ≡ true
-  pub none-below : (j : ℕ) → j < r → reaches s load j ≡ false
-
--- 01, Reduced load and figure: the share, "at most 1, and at least 1/2 where n is 1, 2/5 where n is 2 or more": r is not below
--- share × Lo exactly where it is not below Lo, or not below both the least share × Lo and (1/4 + 45.7/√X) × Lo
-abbrev pub Clamped : ℕ → InfluenceArea → ℕ → ℕ → Type 0
-Clamped n x load r =
-    reaches (formulaShare n x) load r
-    ≡ (reaches (Twentieths 20) load r || reaches (Twentieths (leastTwentieths n)) load r && reaches (Root x) load r)
 
 -- 01, Reduced load and figure: R of a line. 01, Numbers by the place of checking: 4 where the class is not 1 to 3, then 5 where
 -- the load is not 1 to 50,000

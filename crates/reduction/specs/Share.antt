@@ -1,8 +1,7 @@
 -- Paper 01, "Reduced load and figure": the share of a line. A share is so many twentieths, or 1/4 + 45.7/√X.
 -- Assumes nothing.
-use mathlib.Core.Path.{_≡_}
-use mathlib.Core.Bool.{Bool, true, cond}
-use Prim.Native.Nat.{ℕ, _*_, _-_, _≤_}
+use mathlib.Core.Bool.{Bool, cond}
+use Prim.Native.Nat.{ℕ, _*_, _-_}
 use lib.Dec.{leb, eqb}
 use Rattle.reduction.specs.declared.InfluenceArea.{InfluenceArea}
 use Rattle.reduction.specs.declared.share.Share.{Share}
@@ -58,8 +57,3 @@ otherTwentieths class n = cond (eqb class 3) 20 (heavyTwentieths n)
 -- 01, Reduced load and figure: the share of a line of this load and class, at n floors and the influence area x
 unfoldable pub shareOf : ℕ → ℕ → ℕ → InfluenceArea → Share
 shareOf load class n x = cond (isFormula load class) (formulaShare n x) (Twentieths (otherTwentieths class n))
-
--- 01, Reduced load and figure: a share is at most 1
-unfoldable pub AtMostOne : Share → Type 0
-AtMostOne (Twentieths k) = k ≤ 20
-AtMostOne (Root x) = rootAtMost 20 x ≡ true

@@ -8,7 +8,6 @@ ghost use Rattle.refusal.specs.Said.{saidAnswer};
 ghost use Rattle.reduction.specs.declared.InfluenceArea.{InfluenceArea};
 ghost use Rattle.reduction.specs.Share.{clampedOf, heavyTwentieths, otherTwentieths};
 ghost use Rattle.reduction.specs.Reduced.{reducedOf};
-ghost use Rattle.reduction.specs.Estimate.{estimateOf};
 ghost use Rattle.reduction.specs.Scale.{scaleOf};
 use member::limits;
 use refusal::Answer;
@@ -22,10 +21,6 @@ mod share;
 // The area that the reduction goes by: K times the summed tributary area of the formula lines
 // carried, in dm².
 pub struct InfluenceArea(pub u64);
-
-// An estimate of the root in the share at one n and one influence area, in units of 2⁻²⁰. It serves
-// every line there, and no reduced load depends on it.
-pub struct RootEstimate(pub u64);
 
 // The share of the formula lines at n floors and the influence area x, in twentieths, where it is
 // clamped; 0 where it is the root.
@@ -59,13 +54,6 @@ fn other_twentieths(class: u64, floors: u64) -> u64
     heavy_twentieths(floors)
 }
 
-// Where the search for reduced loads begins, for all lines at n floors and the influence area x.
-pub fn root_estimate(floors: u64, x: InfluenceArea) -> RootEstimate
-    ensures { λ r. ⌜ r ≡ estimateOf floors x ⌝ }
-{
-    RootEstimate(rounding::scale_of(share::formula_share(floors, x)))
-}
-
 // The root part of 4 × share in units of 2⁻¹⁹, rounded down, for all formula lines at n floors and
 // the influence area x; 0 where their share is clamped. By it most reduced loads need no search.
 pub fn root_scale(floors: u64, x: InfluenceArea) -> u64
@@ -94,35 +82,16 @@ fn other_load(load: u64, class: u64, floors: u64) -> Answer
 }
 
 // The reduced load R of a line, at n floors and the influence area x; refused where the class or
-// the load is outside its limits. It is the same for every estimate; a near one is quicker.
-pub fn reduced_load_from(
-    estimate: RootEstimate,
-    load: u64,
-    class: u64,
-    floors: u64,
-    x: InfluenceArea,
-) -> Answer
+// the load is outside its limits. The papers leave 0 floors free: it is then that of one floor.
+pub fn reduced_load(load: u64, class: u64, floors: u64, x: InfluenceArea) -> Answer
     ensures { λ r. ⌜ saidAnswer r ≡ reducedOf load class floors x ⌝ }
 {
+    // a formula line with a load is within its limits
     if !member::is_formula(load, class) {
         return other_load(load, class, floors);
     }
     if load == 0 {
         return other_load(load, class, floors);
     }
-    let share = share::formula_share(floors, x);
-    let scale = rounding::scale_from(estimate);
-    Answer::Gives(rounding::rounded(share, load, scale))
-}
-
-// The reduced load R of a line, at n floors and the influence area x; refused where the class or
-// the load is outside its limits. The papers leave 0 floors free: it is then that of one floor.
-pub fn reduced_load(load: u64, class: u64, floors: u64, x: InfluenceArea) -> Answer
-    ensures { λ r. ⌜ saidAnswer r ≡ reducedOf load class floors x ⌝ }
-{
-    // only a formula line has a root to estimate
-    if !member::is_formula(load, class) {
-        return reduced_load_from(RootEstimate(0), load, class, floors, x);
-    }
-    reduced_load_from(root_estimate(floors, x), load, class, floors, x)
+    Answer::Gives(rounding::rounded(share::formula_share(floors, x), load))
 }

@@ -3,10 +3,8 @@ ghost use mathlib.Core.Path.{_≡_};
 ghost use Prim.Native.Nat.{_*_, _-_, _^_, max, _≤_};
 ghost use Rattle.reduction.specs.declared.share.Share.the-variants.{Twentieths, Root};
 ghost use Rattle.reduction.specs.Reduced.{reaches, reduced};
-ghost use Rattle.reduction.specs.Estimate.{newton, highestChord, estimate};
-ghost use Rattle.reduction.specs.ShareBounds.{Fit};
+ghost use Rattle.reduction.specs.inner.ShareBounds.{Fit};
 use crate::InfluenceArea;
-use crate::RootEstimate;
 use crate::share::Share;
 
 // So many twentieths of a load, rounded up.
@@ -58,7 +56,7 @@ fn greater(a: u64, b: u64) -> u64
 // About 914 / (5 √X) units, to 2 %: the highest of six chords of the curve, which takes no branch.
 fn highest_chord(x: InfluenceArea) -> u64
     requires { ⌜ (3713 ≤ x .0) × (x .0 ≤ 92821) ⌝ }
-    ensures { λ r. ⌜ (r ≡ highestChord (x .0)) × (1 ≤ r) × (r ≤ 2 ^ 22) ⌝ }
+    ensures { λ r. ⌜ (1 ≤ r) × (r ≤ 2 ^ 22) ⌝ }
 {
     let low = greater(chord(4141000, 279, x), chord(3170000, 125, x));
     let middle = greater(chord(2425000, 56, x), chord(1854000, 25, x));
@@ -69,35 +67,10 @@ fn highest_chord(x: InfluenceArea) -> u64
 // About 914 / (5 √X) units, to 2 in 10,000: one of Newton's steps from a chord, with one division.
 pub fn near_scale(x: InfluenceArea) -> u64
     requires { ⌜ (3713 ≤ x .0) × (x .0 ≤ 92821) ⌝ }
-    ensures { λ r. ⌜ r ≡ newton (x .0) (highestChord (x .0)) ⌝ }
+    ensures { λ r. ⌜ r ≤ 2 ^ 48 ⌝ }
 {
     let near = highest_chord(x);
     (near + ROOT_SQUARE / (25 * x.0 * near)) / 2
-}
-
-// The scale of a share, 0 where it has no root. It is the same for all lines with one share.
-pub fn scale_of(share: Share) -> u64
-    requires { ⌜ Fit share 1 ⌝ }
-    ensures { λ r. ⌜ r ≡ estimate share ⌝ }
-{
-    match share {
-        Share::Twentieths(_) => 0,
-        Share::Root(x) => near_scale(x),
-    }
-}
-
-// The largest scale that a load can be multiplied by, 2⁴⁸.
-const SCALE_MOST: u64 = 281474976710656;
-
-// An estimate as a scale: cut to the largest, so that every estimate serves.
-pub fn scale_from(estimate: RootEstimate) -> u64
-    ensures { λ r. ⌜ r ≤ 2 ^ 48 ⌝ }
-{
-    if estimate.0 <= SCALE_MOST {
-        estimate.0
-    } else {
-        SCALE_MOST
-    }
 }
 
 // A guess at the reduced load by the root: the share times the load, rounded up, with the root as
@@ -139,20 +112,20 @@ fn lowered(x: InfluenceArea, load: u64, from: u64) -> u64
 
 // The reduced load by the root. The exact tests alone decide it; the scale only says where they
 // begin.
-fn root_rounded(x: InfluenceArea, load: u64, scale: u64) -> u64
-    requires { ⌜ Fit (Root x) load × (scale ≤ 2 ^ 48) ⌝ }
+fn root_rounded(x: InfluenceArea, load: u64) -> u64
+    requires { ⌜ Fit (Root x) load ⌝ }
     ensures { λ r. ⌜ r ≡ reduced (Root x) load ⌝ }
 {
-    lowered(x, load, raised(x, load, guess(load, scale)))
+    lowered(x, load, raised(x, load, guess(load, near_scale(x))))
 }
 
-// The reduced load. Only the root needs a search, which the scale begins.
-pub fn rounded(share: Share, load: u64, scale: u64) -> u64
-    requires { ⌜ Fit share load × (scale ≤ 2 ^ 48) ⌝ }
+// The reduced load. Only the root needs a search.
+pub fn rounded(share: Share, load: u64) -> u64
+    requires { ⌜ Fit share load ⌝ }
     ensures { λ r. ⌜ r ≡ reduced share load ⌝ }
 {
     match share {
         Share::Twentieths(k) => twentieths_of(k, load),
-        Share::Root(x) => root_rounded(x, load, scale),
+        Share::Root(x) => root_rounded(x, load),
     }
 }

@@ -5,17 +5,17 @@ use Rattle.refusal.specs.declared.Answer.{Answer}
 use Rattle.refusal.specs.declared.Answer.the-variants.{Gives, Refused}
 use Rattle.refusal.specs.Refusal.{numberOf}
 
--- 01, Numbers by the place of checking: what is given, or the number of the first condition that holds, with what comes back:
--- 01, Effects and the 25 combinations: "A refused effect comes back with the double as it came"; and
--- 01, Member, line, floor: "the number and place of the first one"
+-- 01, Numbers by the place of checking: what is given, or the number of the first condition that holds, with what comes back,
+-- "the double as it came" (Effects and the 25 combinations) or the "place of the first one" (Member, line, floor)
 pub data Told (Back A : Type 0) : Type 0 where
   gives : A → Told Back A
   refused : ℕ → Back → Told Back A
 
--- the same where nothing comes back but the number
+-- 01, Numbers by the place of checking: the same where nothing comes back but the number
 abbrev pub Said : Type 0 → Type 0
 Said A = Told (Unit {0}) A
 
+-- 01, Numbers by the place of checking: what comes back then
 abbrev pub nothing : Unit {0}
 nothing = tt
 

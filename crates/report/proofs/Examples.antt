@@ -2,7 +2,8 @@
 -- Assumes nothing.
 use mathlib.Core.Path.{refl}
 use Rattle.text.specs.Text.{joined, lastDigit, digitsIn, decimal, signedParts}
-use Rattle.text.specs.Lines.{textOf, withByte, split}
+use Rattle.text.specs.theorems.Texts.{textOf}
+use Rattle.text.specs.Lines.{withByte, split}
 use Rattle.lists.specs.Lists.{All, none, more, keep, some, total}
 use Rattle.reduction.specs.Least.{leastFrom}
 use Rattle.member.specs.Member.{table4·2, tableFactor}
@@ -25,10 +26,10 @@ use Rattle.sheet_lines.specs.Number.{mayGrow, numberEnded, numberFrom, numberAt
 use Rattle.refusal.specs.Refusal.{numberOf}
 use Rattle.sheet_lines.specs.Form.{memberKeys, floorKeys, effectKeys, withNumber, fieldsFrom, formBy, memberForm, lineFrom, floorForm, effectEnd, effectForm, isFloor, laterForm, formOf, saidForm, lineSaid}
 use Rattle.sheet.specs.Sheet.{isComplete, ifTaken, effectNumber, valued, lineTaken, ifRead, readFrom, readSheet}
-use Rattle.report.specs.Report.{effectsWith, floorLine, floorLineOf, floorLines, liveOf, effectsOf, governingLine, governingLines, takedownOf, refusalLine, printed, reportOf}
-use Rattle.report.specs.Examples.{sample, sampleReport, examples, Says}
+use Rattle.report.specs.Report.{effectsWith, floorLine, floorLineOf, floorLines, liveOf, effectsOf, governingLine, governingLines, takedownOf, refusalLine, putOf, refusalText, reportOf}
+use Rattle.report.specs.tables.Examples.{sample, sampleReport, examples, Says}
 
 -- 01, The sheet: every example
 pub examples-hold : All Says examples
-unfolding examples sample sampleReport textOf Says reportOf printed takedownOf refusalLine governingLines governingLine effectsOf effectsWith liveOf lowestFigure floorLines floorLineOf floorLine readSheet readFrom ifRead lineTaken valued effectNumber ifTaken isComplete split withByte lineSaid saidForm numberOf formOf laterForm isFloor effectForm effectEnd floorForm lineFrom memberForm formBy fieldsFrom withNumber memberKeys floorKeys effectKeys fieldAt begins numberAt numberFrom numberEnded mayGrow governing best bestFrom better sums sumOf factors combinations factorIn placeOf newtonsOf signed askedOf workingOf enteredOf openedOf columnOf entriesOf unpacked linesOf entryNumber firstCondition lastFloor figureOf lineFigure influenceFrom influenceOf areaOf floorsOf hasFloor carried formulaLines isFormulaLine keep some total tableFactor table4·2 shareOf isFormula formulaShare otherTwentieths oneFloor rootAtLeast rootAtMost leastTwentieths reduced reaches leastFrom decimal signedParts joined digitsIn lastDigit
+unfolding examples sample sampleReport textOf Says reportOf putOf refusalText takedownOf refusalLine governingLines governingLine effectsOf effectsWith liveOf lowestFigure floorLines floorLineOf floorLine readSheet readFrom ifRead lineTaken valued effectNumber ifTaken isComplete split withByte lineSaid saidForm numberOf formOf laterForm isFloor effectForm effectEnd floorForm lineFrom memberForm formBy fieldsFrom withNumber memberKeys floorKeys effectKeys fieldAt begins numberAt numberFrom numberEnded mayGrow governing best bestFrom better sums sumOf factors combinations factorIn placeOf newtonsOf signed askedOf workingOf enteredOf openedOf columnOf entriesOf unpacked linesOf entryNumber firstCondition lastFloor figureOf lineFigure influenceFrom influenceOf areaOf floorsOf hasFloor carried formulaLines isFormulaLine keep some total tableFactor table4·2 shareOf isFormula formulaShare otherTwentieths oneFloor rootAtLeast rootAtMost leastTwentieths reduced reaches leastFrom decimal signedParts joined digitsIn lastDigit
 examples-hold = more refl (more refl (more refl (more refl (more refl (more refl none)))))

@@ -9,7 +9,8 @@ use lib.IntN.{ℤ, natAbs}
 use lib.ListN.{length, length-append}
 use mir.Syntax.{w64}
 use mir.Val.{Fits}
-use Rattle.text.specs.Text.{bytesOf, joined, decimal, signedDecimal}
+use Rattle.text.specs.Text.{bytesOf, joined, decimal}
+use Rattle.text.specs.theorems.Texts.{signedDecimal}
 use Rattle.text.proofs.Puts.{joined-append}
 use Rattle.text.proofs.Decimal.{length-most}
 use Rattle.text.proofs.Sign.{signed-length}
@@ -18,14 +19,15 @@ use Rattle.column.specs.declared.Column.{Column}
 use Rattle.figure.specs.declared.Working.{Working}
 use Rattle.column.specs.Column.{Reached}
 use Rattle.figure.specs.Asked.{asked}
-use Rattle.figure.specs.Most.{Most}
+use Rattle.figure.specs.theorems.Most.{Most}
 use Rattle.figure.proofs.Most.{asked-most}
 use Rattle.effects.specs.Check.{newtonsOf}
 use Rattle.newtons.specs.Effect.{limit}
-use Rattle.effects.specs.Sized.{Seven}
+use Rattle.effects.specs.inner.Sized.{Seven}
 use Rattle.combination.specs.declared.GoverningRow.{GoverningRow}
 use Rattle.combination.specs.declared.Governing.{Governing}
-use Rattle.combination.specs.Governing.{sums, Governs}
+use Rattle.combination.specs.Governing.{sums}
+use Rattle.combination.specs.theorems.Governs.{Governs}
 use Rattle.combination.specs.Combine.{governing}
 use Rattle.combination.proofs.RowSums.{mostSum}
 use Rattle.combination.proofs.Table.{sums-length, sums-small}

@@ -15,7 +15,7 @@ use Rattle.column.specs.Column.{Reached}
 use Rattle.figure.proofs.Lowest.{lowest-most}
 use Rattle.newtons.specs.Effect.{limit}
 use Rattle.effects.specs.Check.{newtonsOf}
-use Rattle.effects.specs.Sized.{Seven}
+use Rattle.effects.specs.inner.Sized.{Seven}
 use Rattle.newtons.proofs.Word.{kept}
 use Rattle.sheet.specs.declared.Sheet.{Sheet}
 use Rattle.sheet.specs.Keeps.{EffectsWithin, Keeps}

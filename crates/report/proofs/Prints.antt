@@ -12,7 +12,8 @@ use Rattle.text.proofs.Puts.{fronted-take}
 use Rattle.sheet.specs.declared.Reading.{Reading}
 use Rattle.sheet.specs.Sheet.{readSheet}
 use Rattle.report.specs.declared.Reported.{Reported}
-use Rattle.report.specs.Report.{takedownOf, refusalText, printed, reportOf, putOf, reportedOf, Prints}
+use Rattle.report.specs.Report.{takedownOf, refusalText, reportOf, putOf, reportedOf}
+use Rattle.report.specs.theorems.Prints.{Prints}
 
 -- what reading gave tells what is put and answered
 module _ (text : List ℕ) {r : Reading} (e : r ≡ readSheet text) where
@@ -30,7 +31,7 @@ module _ (text : List ℕ) {r : Reading} (e : r ≡ readSheet text) where
 
 -- 01, The sheet: all that takedown prints
 pub prints : (text : List ℕ) → Prints text
-unfolding reportedOf reportOf printed putOf refusalText
+unfolding reportedOf reportOf
 prints text =
     record {
       read = λ n. rw (eq-eqb _ _ n) refl;

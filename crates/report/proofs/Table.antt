@@ -17,12 +17,13 @@ use Rattle.column.specs.declared.Column.{Column}
 use Rattle.figure.specs.declared.Working.{Working}
 use Rattle.figure.specs.Carried.{carried, hasFloor, floorsOf}
 use Rattle.column.specs.Column.{linesOf}
-use Rattle.figure.specs.Asked.{workingFrom, workingOf, askedOf, asked}
+use Rattle.figure.specs.inner.Working.{workingFrom}
+use Rattle.figure.specs.Asked.{workingOf, askedOf, asked}
 use Rattle.figure.specs.Workings.{workingNumbers, workingsOf}
 use Rattle.figure.proofs.Carried.{has-carried, has-some}
 use Rattle.figure.proofs.Workings.{workings-length}
 use Rattle.report.specs.Report.{floorLineOf, floorLines}
-use Rattle.report.specs.Table.{lineOf, workingAfter, tableLines}
+use Rattle.report.specs.inner.Table.{lineOf, workingAfter, tableLines}
 
 -- the numbers of a floor stand where its place is
 pub workings-at : (c : Column) (top f j : ℕ) → f < top → j < 3 → getD (workingsOf c top) (3 * f + j) 0 ≡ getD (workingNumbers (asked c (suc f))) j 0

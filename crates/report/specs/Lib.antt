@@ -1,4 +1,5 @@
--- The definition of the report; paper 01's sample; then the table that private functions print from.
+-- The definitions of the report.
 pub mod Report
-pub mod Examples
-pub mod Table
+pub mod theorems
+pub mod tables
+pub mod inner

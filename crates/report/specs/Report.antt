@@ -1,9 +1,8 @@
 -- Paper 01, "The sheet": what the program takedown prints.
 -- Assumes nothing.
-use mathlib.Core.Path.{_≡_}
 use mathlib.Core.Bool.{cond}
 use mathlib.Core.List.{List, [], _∷_, _++_}
-use Prim.Native.Nat.{ℕ, zero, suc, _+_, _/_, _≤_}
+use Prim.Native.Nat.{ℕ, zero, suc, _+_, _/_}
 use lib.Dec.{eqb}
 use lib.IntN.{ℤ, pos}
 use lib.ListN.{length, getD}
@@ -22,7 +21,6 @@ use Rattle.combination.specs.declared.GoverningRow.{GoverningRow}
 use Rattle.combination.specs.declared.Governing.{Governing}
 use Rattle.combination.specs.Combine.{governing}
 use Rattle.sheet.specs.declared.Sheet.{Sheet}
-use Rattle.sheet.specs.declared.Reading.{Reading}
 use Rattle.sheet.specs.Sheet.{readSheet}
 use Rattle.report.specs.declared.Reported.{Reported}
 
@@ -54,13 +52,13 @@ floorLines c (suc f) = floorLines c f ++ floorLineOf (suc f) (asked c (suc f))
 unfoldable pub liveOf : Column → ℕ
 liveOf c = (lowestFigure (c .member) (linesOf c) + 99) / 100
 
--- 01, Effects and the 25 combinations: the six effects of a sheet, with the live effect among them
+-- 01, The sheet: the six effects of a sheet, "one a line", with the live effect among them
 unfoldable pub effectsWith : List ℤ → ℕ → Newtons
 effectsWith es live =
     let at : ℕ → ℤ = λ k. getD es k (pos 0) in
     record { dead = at 0; live = pos live; roof = at 1; snow = at 2; rain = at 3; wind = at 4; quake = at 5 }
 
--- 01, Effects and the 25 combinations: the seven effects of a sheet
+-- 01, The sheet: the seven effects of a sheet, its six and "the live effect"
 unfoldable pub effectsOf : Sheet → Newtons
 effectsOf s = effectsWith (s .effects) (liveOf (s .column))
 
@@ -80,14 +78,6 @@ takedownOf s = floorLines (s .column) lowestFloor ++ governingLines (governing (
 unfoldable pub refusalLine : ℕ → ℕ → List (List ℕ)
 refusalLine n k = bytesOf "refused=" ∷ decimal n ∷ bytesOf " line=" ∷ decimal k ∷ (newline ∷ []) ∷ []
 
--- 01, The sheet: all that takedown prints of what reading gave
-unfoldable pub printed : Reading → List (List ℕ)
-printed r = cond (eqb (r .number) 0) (takedownOf (r .sheet)) (refusalLine (r .number) (r .line))
-
--- 01, The sheet: all that takedown prints from a text
-unfoldable pub reportOf : List ℕ → List ℕ
-reportOf text = joined (printed (readSheet text))
-
 -- 01, Numbers by the place of checking: "all that was lent, is then as before": the bytes that the report of a text puts at
 -- the front of the lent buffer, the take-down, and none where the sheet is refused
 unfoldable pub putOf : List ℕ → List ℕ
@@ -102,7 +92,6 @@ reportedOf text = let r = readSheet text in record { number = r .number; line = 
 unfoldable pub refusalText : ℕ → ℕ → List ℕ
 refusalText n k = joined (refusalLine n k)
 
--- 01, The sheet: what takedown prints is what the report puts where the number is 0, and else the line of its number and its K
-pub record Prints (text : List ℕ) : Type 0 where
-  pub read : reportedOf text .number ≡ 0 → reportOf text ≡ putOf text
-  pub refused : 1 ≤ reportedOf text .number → reportOf text ≡ refusalText (reportedOf text .number) (reportedOf text .line)
+-- 01, The sheet: all that takedown prints from a text
+unfoldable pub reportOf : List ℕ → List ℕ
+reportOf text = let r = readSheet text in cond (eqb (r .number) 0) (putOf text) (refusalText (r .number) (r .line))

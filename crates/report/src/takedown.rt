@@ -9,7 +9,7 @@ ghost use Rattle.column.specs.Line.{lowestFloor};
 ghost use Rattle.sheet.specs.Keeps.{EffectsWithin, Keeps};
 ghost use Rattle.report.specs.Report.{effectsWith, governingLines, takedownOf};
 ghost use Rattle.column.specs.Column.{columnFrom};
-ghost use Rattle.report.specs.Table.{sheetFrom, lineOf, workingAfter, tableLines};
+ghost use Rattle.report.specs.inner.Table.{sheetFrom, lineOf, workingAfter, tableLines};
 use crate::lines;
 use column::Member;
 use column::Places;

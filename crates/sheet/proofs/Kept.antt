@@ -18,13 +18,14 @@ use Rattle.sheet_lines.specs.declared.Due.the-variants as D
 use Rattle.sheet_lines.specs.declared.Form.{Form}
 use Rattle.refusal.specs.Said.{Said, gives, refused}
 use Rattle.sheet_lines.specs.Form.{effectCount, Content, memberSaid, floorSaid, effectSaid, saidForm, lineSaid}
-use Rattle.sheet_lines.specs.Says.{member, floor, effect}
+use Rattle.sheet_lines.specs.theorems.Says.{member, floor, effect}
 use Rattle.sheet_lines.proofs.SaysForm.{Read, says, malformed, form-read}
 use Rattle.sheet.specs.declared.Sheet.{Sheet}
 use Rattle.sheet.specs.declared.Reading.{Reading}
 use Rattle.text.specs.Lines.{Lines, line, rest, split}
 use Rattle.sheet.specs.Sheet.{Draft, Taken, unread, isComplete, withEffect, ifTaken, effectNumber, valued, lineTaken, reading, ifRead, readFrom, readSheet}
-use Rattle.sheet.specs.Keeps.{EffectsWithin, Keeps, KeepsColumn, KeepsSoFar}
+use Rattle.sheet.specs.Keeps.{EffectsWithin, Keeps}
+use Rattle.sheet.specs.inner.SoFar.{KeepsColumn, KeepsSoFar}
 
 -- the draft keeps the limits
 abbrev pub Kept : Draft → Type 0

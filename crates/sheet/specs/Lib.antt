@@ -1,4 +1,4 @@
--- The definitions of reading a sheet; paper 01 in its order, then what private functions ask.
+-- The definitions of reading a sheet; paper 01 in its order.
 pub mod Sheet
 pub mod Keeps
-pub mod InPlace
+pub mod inner

@@ -18,17 +18,17 @@ use Rattle.sheet.specs.declared.Sheet.{Sheet}
 use Rattle.sheet.specs.declared.Reading.{Reading}
 use Rattle.text.specs.Lines.{Lines, line, rest, split}
 
--- a sheet as far as it was read, and the line that is due
+-- 01, The sheet: a sheet as far as it was read, and the line that is due
 pub record Draft : Type 0 where
   pub due : Due
   pub sheet : Sheet
 
--- what becomes of a line: the number of its refusal, 0 where it is taken, and the draft then
+-- 01, Numbers by the place of checking: what becomes of a line: its number, 0 where it is taken, and the draft then
 pub record Taken : Type 0 where
   pub number : ℕ
   pub draft : Draft
 
--- before the first line: no member is opened, and all effects are 0
+-- No part of the paper: before the first line: no member is opened, and all effects are 0
 abbrev pub unread : Draft
 unread = record { due = D.Member; sheet = record { column = unopened; effects = replicate effectCount (pos 0) } }
 
@@ -37,14 +37,16 @@ unfoldable pub isComplete : Due → Bool
 isComplete D.Member = false
 isComplete (D.Effect k) = leb effectCount k
 
--- 01, The sheet: "in a fixed order"; the draft after a line that gave a column, and after the effect at a place
+-- 01, The sheet: "in a fixed order"; the draft after a line that gave a column
 abbrev pub withColumn : Draft → Column → Draft
 withColumn d c = record { due = D.Effect 0; sheet = record { column = c; effects = d .sheet .effects } }
 
+-- 01, The sheet: "in a fixed order"; the draft after the effect at a place
 abbrev pub withEffect : Draft → ℕ → ℤ → Draft
-withEffect d k z = record { due = D.Effect (k + 1); sheet = record { column = d .sheet .column; effects = set (d .sheet .effects) k z } }
+withEffect d k z =
+    record { due = D.Effect (k + 1); sheet = record { column = d .sheet .column; effects = set (d .sheet .effects) k z } }
 
--- a line with a number is refused, and the draft is then as before; with 0 it is taken
+-- 01, Numbers by the place of checking: a line with a number is refused, and the draft "is then as before"; with 0 it is taken
 unfoldable pub ifTaken : ℕ → Draft → Draft → Taken
 ifTaken n d next = record { number = n; draft = cond (eqb n 0) next d }
 
@@ -52,11 +54,11 @@ ifTaken n d next = record { number = n; draft = cond (eqb n 0) next d }
 unfoldable pub effectNumber : ℤ → ℕ
 effectNumber z = cond (within z) 0 9
 
--- the draft after opening the member or entering the line
+-- 01, Numbers by the place of checking: the draft after opening the member or entering the line
 abbrev pub withOutcome : Draft → Outcome → Taken
 withOutcome d o = ifTaken (o .number) d (withColumn d (o .column))
 
--- 01, Numbers by the place of checking: what becomes of what a line says, by its values: 1; 2 to 6; 9; and without the form 10
+-- 01, Numbers by the place of checking: what becomes of what a line says, by its values 1, 2 to 6 or 9; without the form 10
 unfoldable pub valued : Draft → Said Content → Taken
 valued d (gives (memberSaid code)) = withOutcome d (openedOf (memberOf code))
 valued d (gives (floorSaid l)) = withOutcome d (enteredOf (d .sheet .column) l)
@@ -67,7 +69,7 @@ valued d (refused n _) = ifTaken n d d
 unfoldable pub lineTaken : Draft → List ℕ → Taken
 lineTaken d l = valued d (lineSaid (d .due) l)
 
--- what reading gives where it stops: the number, the line K, the part from start to end, and the sheet so far
+-- 01, The sheet: what reading gives where it stops: the number, K, the part from start to end, and the sheet so far
 abbrev pub reading : ℕ → ℕ → ℕ → ℕ → Draft → Reading
 reading number k start end d = record { number = number; line = k; start = start; end = end; sheet = d .sheet }
 

@@ -2,10 +2,10 @@
 ghost use mathlib.Core.Path.{_≡_};
 ghost use mathlib.Core.List.{List};
 ghost use Prim.Native.Nat.{ℕ};
-ghost use Rattle.column.specs.Column.{noPlaces};
+ghost use Rattle.column.specs.inner.Sound.{noPlaces};
 ghost use Rattle.sheet.specs.Sheet.{reading, readSheet, offendingOf, offendingAt};
 ghost use Rattle.sheet.specs.Keeps.{Keeps};
-ghost use Rattle.sheet.specs.InPlace.{draftOf, summarySheet, readingOf};
+ghost use Rattle.sheet.specs.inner.InPlace.{draftOf, summarySheet, readingOf};
 use column::Column;
 use column::LINES;
 use column::Member;

@@ -2,12 +2,13 @@
 ghost use mathlib.Core.Path.{_≡_};
 ghost use mathlib.Core.List.{List};
 ghost use Prim.Native.Nat.{ℕ, _<_};
-ghost use Rattle.column.specs.Column.{noPlaces, columnFrom, unopened, Reached};
+ghost use Rattle.column.specs.inner.Sound.{noPlaces};
+ghost use Rattle.column.specs.Column.{columnFrom, unopened, Reached};
 ghost use Rattle.refusal.specs.Said.{gives};
 ghost use Rattle.sheet_lines.specs.Form.{effectCount, memberSaid, floorSaid, effectSaid};
 ghost use Rattle.sheet.specs.Sheet.{unread, isComplete, effectNumber, valued, lineTaken};
-ghost use Rattle.sheet.specs.Keeps.{KeepsSoFar};
-ghost use Rattle.sheet.specs.InPlace.{draftOf, takenOf};
+ghost use Rattle.sheet.specs.inner.SoFar.{KeepsSoFar};
+ghost use Rattle.sheet.specs.inner.InPlace.{draftOf, takenOf};
 use column::Line;
 use column::Member;
 use column::Places;

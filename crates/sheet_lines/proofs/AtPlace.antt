@@ -15,10 +15,11 @@ use borrow.Author.Tests.{lt-ltb, le-ltb, eq-eqb, ne-eqb, eqb-true, eqb-false, lt
 use Rattle.sheet_lines.specs.declared.number.Number.{Number}
 use Rattle.sheet_lines.specs.declared.number.Number.the-variants.{Is, Not}
 use Rattle.sheet_lines.specs.Number.{mayGrow, numberEnded, numberFrom, begins, fieldAt}
-use Rattle.sheet_lines.specs.Form.{keyAt, withNumber, fieldsFrom, formBy}
+use Rattle.sheet_lines.specs.Form.{withNumber, fieldsFrom, formBy}
+use Rattle.sheet_lines.specs.theorems.Says.{keyAt}
 use Rattle.sheet_lines.specs.declared.Form.{Form}
 use Rattle.sheet_lines.specs.declared.Form.the-variants.{Malformed}
-use Rattle.sheet_lines.specs.InLine.{Small, partsOf, rising, told}
+use Rattle.sheet_lines.specs.inner.InLine.{Small, partsOf, rising, told}
 
 -- a choice that came out as x, by cases
 pub chosen : {A : Type 0} {G : Type 0} (t : Bool) (a b x : A) → cond t a b ≡ x → (t ≡ true → a ≡ x → G) → (t ≡ false → b ≡ x → G) → G

@@ -6,7 +6,7 @@ use Rattle.refusal.specs.Refusal.{numberOf}
 use Rattle.newtons.specs.Effect.{signed}
 use Rattle.sheet_lines.specs.Number.{mayGrow, numberEnded, numberFrom, numberAt, begins, fieldAt}
 use Rattle.sheet_lines.specs.Form.{memberKeys, floorKeys, effectKeys, withNumber, fieldsFrom, formBy, memberForm, lineFrom, floorForm, effectEnd, effectForm, isFloor, laterForm, formOf, saidForm, lineSaid}
-use Rattle.sheet_lines.specs.Examples.{examples, Holds}
+use Rattle.sheet_lines.specs.tables.Examples.{examples, Holds}
 
 -- 01, The sheet: every line of the sample, and lines without the form
 pub examples-hold : All Holds examples

@@ -38,21 +38,17 @@ effectKeys = bytesOf "dead=" ∷ bytesOf "roof=" ∷ bytesOf "snow=" ∷ bytesOf
 abbrev pub effectCount : ℕ
 effectCount = 6
 
--- the key at a place of a list
-abbrev pub keyAt : List (List ℕ) → ℕ → List ℕ
-keyAt keys k = getD keys k []
-
--- goes on with a number and the place after it; without a number there is this
+-- No part of the paper: goes on with a number and the place after it; without a number there is this
 unfoldable pub withNumber : {A : Type 0} → A → Number → (ℕ → ℕ → A) → A
 withNumber other (N.Is value next) go = go value next
 withNumber other N.Not go = other
 
--- 01, The sheet: the numbers behind some keys, one after another from a place on, up to the end of the line; with these before them
+-- 01, The sheet: the numbers behind some keys, one after another from a place to the end of the line; with these before them
 unfoldable pub fieldsFrom : List ℕ → List (List ℕ) → List ℕ → ℕ → Option (List ℕ)
 fieldsFrom done [] l at = cond (eqb at (length l)) (some done) none
 fieldsFrom done (key ∷ keys) l at = withNumber none (fieldAt key l at) λ n next. fieldsFrom (done ++ (n ∷ [])) keys l next
 
--- what the numbers of a line say; without them it has not the form
+-- 01, The sheet: what the numbers of a line say; without them it has not the form
 unfoldable pub formBy : Option (List ℕ) → (List ℕ → Form) → Form
 formBy (some ns) form = form ns
 formBy none form = Malformed
@@ -61,10 +57,7 @@ formBy none form = Malformed
 unfoldable pub memberForm : List ℕ → Form
 memberForm l = formBy (fieldsFrom [] memberKeys l 0) λ ns. Member (getD ns 0 0)
 
--- 01, Member, line, floor: the "four decimal numbers" of a line, and the line of four numbers
-unfoldable pub lineNumbers : Line → List ℕ
-lineNumbers x = x .floor ∷ x .class ∷ x .load ∷ x .area .0 ∷ []
-
+-- 01, Member, line, floor: the line of "four decimal numbers"
 unfoldable pub lineFrom : List ℕ → Line
 lineFrom ns = line (getD ns 0 0) (getD ns 1 0) (getD ns 2 0) (getD ns 3 0)
 
@@ -87,11 +80,12 @@ effectForm k key l =
 
 -- 01, The sheet: before dead "no or more" floor lines come
 unfoldable pub isFloor : ℕ → List ℕ → Bool
-isFloor k l = cond (eqb k 0) (begins (keyAt floorKeys 0) l) false
+isFloor k l = cond (eqb k 0) (begins (getD floorKeys 0 []) l) false
 
 -- 01, The sheet: the line where the effect at a place is due; after the last nothing is
 unfoldable pub laterForm : ℕ → List ℕ → Form
-laterForm k l = cond (ltb k effectCount) (cond (isFloor k l) (floorForm l) (effectForm k (keyAt effectKeys k) l)) Malformed
+laterForm k l =
+    cond (ltb k effectCount) (cond (isFloor k l) (floorForm l) (effectForm k (getD effectKeys k []) l)) Malformed
 
 -- 01, The sheet: "in a fixed order", `member`; then no or more floor lines; then `dead roof snow rain wind quake`, one a line
 unfoldable pub formOf : Due → List ℕ → Form

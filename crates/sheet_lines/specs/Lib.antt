@@ -1,6 +1,6 @@
--- The definitions of the lines of a sheet; paper 01 in its order, its sample, then what private functions ask.
+-- The definitions of the lines of a sheet; paper 01 in its order.
 pub mod Number
 pub mod Form
-pub mod Says
-pub mod Examples
-pub mod InLine
+pub mod theorems
+pub mod tables
+pub mod inner

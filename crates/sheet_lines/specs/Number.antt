@@ -8,15 +8,15 @@ use lib.ListN.{length, drop}
 use Rattle.sheet_lines.specs.declared.number.Number.{Number}
 use Rattle.sheet_lines.specs.declared.number.Number.the-variants.{Is, Not}
 
--- 01, The sheet: "1 to 13 decimal digits and no needless leading zero"; whether a digit may follow so many digits of this value
+-- 01, The sheet: "1 to 13 decimal digits and no needless leading zero"; whether a digit may follow so many of this value
 unfoldable pub mayGrow : ℕ → ℕ → Bool
 mayGrow count value = cond (eqb count 0) true (cond (eqb value 0) false (ltb count 13))
 
--- the digits have ended at a place: a number, if there was a digit
+-- 01, The sheet: the digits have ended at a place: a number, if there was a digit
 unfoldable pub numberEnded : ℕ → ℕ → ℕ → Number
 numberEnded count value next = cond (eqb count 0) Not (Is value next)
 
--- reads on in a number: so many digits of this value stand before a place, and these bytes from it on
+-- 01, The sheet: reads on in a number: so many digits of this value stand before a place, and these bytes from it on
 unfoldable pub numberFrom : ℕ → ℕ → ℕ → List ℕ → Number
 numberFrom count value next [] = numberEnded count value next
 numberFrom count value next (b ∷ bs) =
@@ -30,7 +30,7 @@ numberFrom count value next (b ∷ bs) =
 unfoldable pub numberAt : List ℕ → ℕ → Number
 numberAt line at = numberFrom 0 0 at (drop at line)
 
--- a text begins with a key
+-- No part of the paper: a text begins with a key
 unfoldable pub begins : List ℕ → List ℕ → Bool
 begins [] bs = true
 begins (k ∷ ks) [] = false

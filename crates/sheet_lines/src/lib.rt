@@ -4,7 +4,7 @@ ghost use mathlib.Core.List.{[]};
 ghost use Prim.Native.Nat.{_≤_};
 ghost use lib.ListN.{length};
 ghost use Rattle.sheet_lines.specs.Form.{fieldsFrom, memberForm, floorForm, effectEnd, effectForm, isFloor, laterForm, saidForm, lineSaid};
-ghost use Rattle.sheet_lines.specs.InLine.{Starts, partsOf, told};
+ghost use Rattle.sheet_lines.specs.inner.InLine.{Starts, partsOf, told};
 use column::Line;
 use member::TributaryArea;
 use number::Number;

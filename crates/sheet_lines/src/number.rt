@@ -3,7 +3,7 @@ ghost use mathlib.Core.Path.{_≡_};
 ghost use Prim.Native.Nat.{_≤_};
 ghost use lib.ListN.{length, drop};
 ghost use Rattle.sheet_lines.specs.Number.{mayGrow, numberEnded, numberAt, begins, fieldAt};
-ghost use Rattle.sheet_lines.specs.InLine.{Small};
+ghost use Rattle.sheet_lines.specs.inner.InLine.{Small};
 
 // The number that stands at a place of a line, and the place after it.
 pub enum Number {

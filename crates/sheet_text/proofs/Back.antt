@@ -20,23 +20,25 @@ use Rattle.column.specs.Accepted.{lastFloor, entryNumber}
 use Rattle.column.specs.Column.{linesOf, columnOf, openedOf, enteredOf}
 use Rattle.column.proofs.Lines.{lines-length as held-length}
 use Rattle.column.proofs.Columns.{column-lines}
-use Rattle.column.specs.InTurn.{Holdable, AcceptedInTurn, none, more}
+use Rattle.column.specs.theorems.InTurn.{Holdable, AcceptedInTurn, none, more}
 use Rattle.column.proofs.Reach.{no-condition, reached-is, sound}
 use Rattle.column.proofs.InTurn.{reached-in-turn, in-turn-holdable}
 use Rattle.newtons.specs.Effect.{magnitudeOf, limit}
 use Rattle.sheet_lines.specs.declared.Due.the-variants as D
 use Rattle.sheet_lines.specs.declared.Form.{Form}
 use Rattle.sheet_lines.specs.declared.Form.the-variants as F
-use Rattle.sheet_lines.specs.Form.{effectKeys, effectCount, keyAt, lineNumbers, saidForm, lineSaid}
-use Rattle.sheet_lines.specs.Says.{memberText, floorText, effectText, as-written, Says, member, floor, effect}
+use Rattle.sheet_lines.specs.Form.{effectKeys, effectCount, saidForm, lineSaid}
+use Rattle.sheet_lines.specs.theorems.Says.{lineNumbers, keyAt}
+use Rattle.sheet_lines.specs.theorems.Says.{memberText, floorText, effectText, as-written, Says, member, floor, effect}
 use Rattle.sheet_lines.proofs.SaysForm.{ShortForm, says-form}
 use Rattle.sheet.specs.declared.Sheet.{Sheet}
-use Rattle.text.specs.Lines.{newline, ended, textOf, line, split}
+use Rattle.text.specs.Lines.{newline, line, split}
+use Rattle.text.specs.theorems.Texts.{ended, textOf}
 use Rattle.sheet.specs.Sheet.{Draft, unread, isComplete, withColumn, ifTaken, effectNumber, valued, lineTaken, ifRead, readFrom, readSheet}
 use Rattle.sheet.specs.Keeps.{Keeps}
 use Rattle.sheet.proofs.Kept.{each-within}
-use Rattle.sheet_text.specs.Written.{effectLines, linesWith, linesIn, written, SayFloors, no-line, and-line}
-use Rattle.sheet_text.specs.Exactly.{readAs, Exactly}
+use Rattle.sheet_text.specs.theorems.Written.{effectLines, linesWith, linesIn, written, SayFloors, no-line, and-line}
+use Rattle.sheet_text.specs.theorems.Exactly.{readAs, Exactly}
 use Rattle.sheet_text.proofs.Sizes.{says-clean, says-length}
 use Rattle.text.proofs.Lines.{split-line, text-more}
 use Rattle.sheet_text.proofs.SaidSoFar.{lines-length, lines-next}

@@ -1,3 +1,2 @@
 -- The text of a sheet, and what holds of reading it.
-pub mod Written
-pub mod Exactly
+pub mod theorems

@@ -6,6 +6,7 @@ ghost use Rattle.io.specs.Counts.{Counts};
 ghost use Rattle.sheet.specs.Sheet.{longest};
 ghost use Rattle.report.specs.Report.{reportOf};
 use input::Ending;
+use libc::STDERR_FILENO;
 use libc::STDIN_FILENO;
 use libc::STDOUT_FILENO;
 
@@ -26,8 +27,32 @@ fn put_printed(buffer: &[u8], count: usize, out: &mut [u8; report::ROOM]) -> usi
     report::put_refusal(reported.number, reported.line, out)
 }
 
-// Reads, reports and writes; what fails is said on standard error.
+// Says how the program is used, to whoever gives it words on its command line.
+fn say_usage() {
+    io::write_all(
+        STDERR_FILENO,
+        b"usage: takedown < SHEET\nIt reads a sheet from standard input, and takes no arguments.\n",
+    );
+}
+
+// Says what is awaited, to whoever sits at a terminal.
+fn say_awaited() {
+    io::write_all(
+        STDERR_FILENO,
+        b"takedown: type a sheet, and end it by Ctrl-D at the start of a line\n",
+    );
+}
+
+// Reads, reports and writes; what fails is said on standard error. With words on the command line nothing
+// is read.
 fn main() {
+    if os::arg_count() > 1 {
+        say_usage();
+        return;
+    }
+    if libc::isatty(STDIN_FILENO) == 1 {
+        say_awaited();
+    }
     let mut text = [0u8; ROOM];
     let input = input::read_from(STDIN_FILENO, &mut text);
     let ending = input.ending;

@@ -11,7 +11,7 @@ use lib.ListN.{length, take, drop, getD, length-drop}
 use lib.Seq.{drop-cons, drop-drop, take-length}
 use Rattle.bytes.specs.Bytes.{slice, indexOf, indexAfter}
 use Rattle.text.specs.Lines.{newline, line, rest, withByte, split, endFrom}
-use Rattle.text.specs.LineEnd.{newlineWithin}
+use Rattle.text.specs.inner.LineEnd.{newlineWithin}
 
 -- a search from a place to the end of the text finds the end of the line
 pub searched : (text : List ℕ) (at : ℕ) → at + indexOf newline (slice at (length text) text) ≡ endFrom text at

@@ -7,7 +7,8 @@ use Prim.Native.Nat.{ℕ, _+_}
 use native.Mathlib.Omega.{arith}
 use lib.Dec.{eqb}
 use borrow.Author.Tests.{eqb-true}
-use Rattle.text.specs.Lines.{newline, ended, textOf, Lines, line, rest, withByte, split, newlines}
+use Rattle.text.specs.Lines.{newline, Lines, line, rest, withByte, split}
+use Rattle.text.specs.theorems.Texts.{ended, textOf, newlines}
 
 -- no line has a newline in it
 pub data Clean : Lines → Type 0 where

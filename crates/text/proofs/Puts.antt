@@ -6,12 +6,13 @@ use mathlib.Core.List.{List, [], _∷_, _++_, append-assoc}
 use Prim.Native.Nat.{ℕ, suc, _+_, _≤_}
 use native.Mathlib.Nat.{add-zero, zero-add}
 use native.Mathlib.Omega.{arith}
+use lib.Dec.{leb}
 use lib.ListN.{length, set, take, drop, length-append}
 use lib.Seq.{sets, sets-eq, length-sets, length-take-le, take-at, drop-at}
 use borrow.Author.Tests.{le-leb}
 use Rattle.io.specs.Counts.{Counts}
 use Rattle.text.specs.Text.{joined}
-use Rattle.text.specs.Put.{fits, Out, out, putOne, puts, fronted}
+use Rattle.text.specs.Put.{Out, out, putOne, puts, fronted}
 
 -- some texts, then others after them
 pub puts-then : {b d : List ℕ} {j k : ℕ} (l : List ℕ) (i : ℕ) (vs ws : List (List ℕ)) → out b j ≡ puts l i vs → out d k ≡ puts b j ws → out d k ≡ puts l i (vs ++ ws)
@@ -23,7 +24,7 @@ puts-then l i (v ∷ vs) ws p q = puts-then (putOne l i v .buffer) (putOne l i v
 pub puts-length : {after : List ℕ} {end : ℕ} (l : List ℕ) (i : ℕ) (vs : List (List ℕ)) → out after end ≡ puts l i vs → length after ≡ length l
 unfolding puts putOne
 puts-length l i [] p = ap (λ (o : Out). length (o .buffer)) p
-puts-length l i (v ∷ vs) p = puts-length (putOne l i v .buffer) (putOne l i v .end) vs p ∙ go (fits l i v)
+puts-length l i (v ∷ vs) p = puts-length (putOne l i v .buffer) (putOne l i v .end) vs p ∙ go (leb (i + length v) (length l))
   where
     go : (b : Bool) → length (cond b (out (sets l i v) (i + length v)) (out l i) .buffer) ≡ length l
     go true = length-sets l i v

@@ -1,5 +1,6 @@
--- The definitions of text: its bytes, its lines, what is put into a buffer; then what private functions ask.
+-- The definitions of text: its bytes, its lines, what is put into a buffer.
 pub mod Text
 pub mod Lines
 pub mod Put
-pub mod LineEnd
+pub mod theorems
+pub mod inner

@@ -8,26 +8,26 @@ use Prim.Native.String.{String, [] as nothing, _∷_ as before}
 use lib.Dec.{ltb}
 use lib.IntN.{ℤ, pos, negsuc}
 
--- the bytes of a text of ASCII characters
+-- No part of the paper: the bytes of a text of ASCII characters
 abbrev pub bytesOf : String → List ℕ
 bytesOf nothing = []
 bytesOf (before c s) = code c ∷ bytesOf s
 
--- texts, one behind the other
+-- No part of the paper: texts, one behind the other
 unfoldable pub joined : List (List ℕ) → List ℕ
 joined [] = []
 joined (t ∷ ts) = t ++ joined ts
 
--- a minus sign
+-- 01, The sheet: "a minus sign"
 abbrev pub minus : ℕ
 minus = 45
 
--- a number below 10 is one digit; else its digits are those of a tenth of it and then the last
+-- No part of the paper: a number below 10 is one digit; else its digits are those of a tenth of it and then the last
 unfoldable pub lastDigit : Bool → (ℕ → List ℕ) → ℕ → List ℕ
 lastDigit true digits n = (48 + n) ∷ []
 lastDigit false digits n = digits (n / 10) ++ ((48 + n % 10) ∷ [])
 
--- the decimal digits of a number, with at most so many before the last
+-- No part of the paper: the decimal digits of a number, with at most so many before the last
 unfoldable pub digitsIn : ℕ → ℕ → List ℕ
 digitsIn zero n = (48 + n % 10) ∷ []
 digitsIn (suc most) n = lastDigit (ltb n 10) (digitsIn most) n
@@ -40,7 +40,3 @@ decimal n = digitsIn n n
 unfoldable pub signedParts : ℤ → List (List ℕ)
 signedParts (pos n) = decimal n ∷ []
 signedParts (negsuc n) = (minus ∷ []) ∷ decimal (suc n) ∷ []
-
--- 01, The sheet: a number with its sign
-abbrev pub signedDecimal : ℤ → List ℕ
-signedDecimal z = joined (signedParts z)

@@ -3,7 +3,7 @@ ghost use mathlib.Core.Path.{_≡_};
 ghost use Prim.Native.Nat.{_+_, _≤_};
 ghost use lib.ListN.{length};
 ghost use Rattle.text.specs.Lines.{endFrom};
-ghost use Rattle.text.specs.LineEnd.{newlineWithin};
+ghost use Rattle.text.specs.inner.LineEnd.{newlineWithin};
 
 // Whether the byte at a place, or one of the seven after it, is a newline; without a branch for each.
 fn has_newline(text: &[u8], at: usize) -> bool

@@ -10,7 +10,7 @@ use Rattle.column.specs.declared.Outcome.{Outcome}
 use Rattle.column.specs.Accepted.{lastFloor, firstCondition, entryNumber}
 use Rattle.column.specs.Column.{linesOf, columnOf, columnFrom, enteredOf, Reached, joinedOutcome}
 use Rattle.column.specs.Line.{packed}
-use Rattle.column.specs.Sound.{InLimits}
+use Rattle.column.specs.inner.Sound.{InLimits}
 use Rattle.column.proofs.Columns.{column-more}
 use Rattle.column.proofs.Lines.{lines-length}
 use Rattle.column.proofs.Reach.{no-condition, entered-accepted, entered-refused, sound, reached-is, reached-entered}

@@ -15,7 +15,7 @@ use Rattle.newtons.specs.Effect.{limit, within}
 use Rattle.effects.specs.declared.Load.{Load}
 use Rattle.effects.specs.declared.Load.the-variants.{Dead}
 use Rattle.effects.specs.Check.{loads, newtonsOf}
-use Rattle.effects.specs.Sized.{Seven}
+use Rattle.effects.specs.inner.Sized.{Seven}
 use Rattle.effects.proofs.Sevens.{each-below}
 use Rattle.combination.specs.declared.Governing.{Governing}
 use Rattle.combination.specs.Combine.{governing, limitedFrom, governed, saidGoverned, NothingLost}

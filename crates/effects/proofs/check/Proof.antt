@@ -11,7 +11,7 @@ use Rattle.effects.specs.declared.LoadEffect.{LoadEffect}
 use Rattle.refusal.specs.Said.{gives, refused}
 use Rattle.newtons.specs.Effect.{limit, effectOf, saidEffect}
 use Rattle.effects.specs.Check.{loadEffect, checkedFrom, checkedOf, saidChecked}
-use Rattle.effects.specs.Sized.{Seven}
+use Rattle.effects.specs.inner.Sized.{Seven}
 use Rattle.newtons.proofs.Limits.{effect-within}
 use Rattle.newtons.proofs.Word.{kept}
 use Rattle.effects.proofs.Sevens.{seven-zeros, seven-set}

@@ -11,7 +11,7 @@ use Rattle.column.specs.Column.{after, Reached}
 use Rattle.column.specs.Line.{entriesOf}
 use Rattle.column.proofs.Entries.{entries-end}
 use Rattle.error_bound.specs.declared.Refusals.{Refusals}
-use Rattle.error_bound.specs.Counting.{numbersOn, notedOf, notedAll}
+use Rattle.error_bound.specs.inner.Counting.{numbersOn, notedOf, notedAll}
 use Rattle.error_bound.proofs.Counting.{noted-all}
 use Rattle.error_bound.proofs.entered_all.Statement.{statement}
 use Rattle.error_bound.proofs.entered_all.Tie as tie

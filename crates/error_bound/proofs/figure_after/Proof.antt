@@ -7,7 +7,7 @@ use Rattle.column.specs.Column.{memberOf, after}
 use Rattle.column.specs.Line.{entriesOf}
 use Rattle.figure.specs.Asked.{asked, saidWorking}
 use Rattle.error_bound.specs.Entries.{refusalsOf}
-use Rattle.error_bound.specs.Counting.{numbersOn}
+use Rattle.error_bound.specs.inner.Counting.{numbersOn}
 use Rattle.error_bound.proofs.Counting.{refusals-opened, refusals-refused}
 use Rattle.error_bound.proofs.Claim.{asked-opened, asked-refused, claim-opened, claim-refused}
 use borrow.Author.Needs.{needs}

@@ -2,7 +2,7 @@
 use mathlib.Core.Path.{_∙_, ap}
 use borrow.Author.Tests.{ne-eqb}
 use Rattle.records.specs.Listed.{atPlace, saidListed}
-use Rattle.records.specs.Entering.{outcomeOf, answerOf}
+use Rattle.records.specs.inner.Entering.{outcomeOf, answerOf}
 use borrow.Author.Needs.{needs}
 use Rattle.records.proofs.answer_of.Statement.{statement}
 use Rattle.records.proofs.answer_of.Tie as tie

@@ -45,12 +45,13 @@ use denote.Triple.Table.{entered, cited}
 use denote.Triple.Walked.{says, Stays, stay-dropped, walkOf, goes-dropped, Walks, ends-at, walked, walk-meets}
 use Rattle.column.specs.declared.Line.{Line}
 use Rattle.column.specs.declared.Outcome.{Outcome}
-use Rattle.column.specs.Column.{noPlaces, memberOf, openedOf}
+use Rattle.column.specs.inner.Sound.{noPlaces}
+use Rattle.column.specs.Column.{memberOf, openedOf}
 use Rattle.column.proofs.Line as L
 use Rattle.records.specs.declared.Listed.{Listed}
 use Rattle.records.specs.declared.entering.Entered.{Entered}
 use Rattle.records.specs.Listed.{listedOf, saidListed, Bounds}
-use Rattle.records.specs.Entering.{Sits, outcomeOf, answerOf, enteredAll}
+use Rattle.records.specs.inner.Entering.{Sits, outcomeOf, answerOf, enteredAll}
 use Rattle.records.proofs.Called.{calls-plain}
 use Rattle.records.proofs.Lent.{word, slice, number, list}
 use Rattle.records.proofs.Answers.{promised}

@@ -8,7 +8,7 @@ use borrow.Author.Tests.{lt-ltb, eq-eqb, ne-eqb}
 use Rattle.refusal.specs.Refusal.{numberOf}
 use Rattle.text.specs.Lines.{split}
 use Rattle.sheet.specs.Sheet.{Draft, Taken, unread, lineTaken, reading, ifRead, readFrom, readSheet}
-use Rattle.sheet.specs.InPlace.{draftOf}
+use Rattle.sheet.specs.inner.InPlace.{draftOf}
 use Rattle.text.proofs.LineEnd.{end-most}
 use Rattle.sheet.proofs.Kept.{Kept, unread-kept, line-kept, line-refused}
 use Rattle.sheet.proofs.ReadOn.{read-end, read-short, read-line, read-start, promised}

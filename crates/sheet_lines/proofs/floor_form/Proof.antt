@@ -2,7 +2,7 @@
 use mathlib.Core.Path.{refl, sym, _∙_}
 use borrow.Author.Tests.{not-true, not-false}
 use Rattle.sheet_lines.specs.Form.{floorKeys, lineFrom, floorForm}
-use Rattle.sheet_lines.specs.InLine.{partsOf, rising}
+use Rattle.sheet_lines.specs.inner.InLine.{partsOf, rising}
 use Rattle.sheet_lines.proofs.AtPlace.{form-told}
 use borrow.Author.Needs.{needs}
 use Rattle.sheet_lines.proofs.floor_form.Statement.{statement}

@@ -6,7 +6,7 @@ use native.Mathlib.Omega.{arith}
 use borrow.Author.Tests.{lt-ltb, le-ltb}
 use Rattle.text.specs.Text.{bytesOf}
 use Rattle.sheet_lines.specs.Form.{effectKeys, effectCount, laterForm}
-use Rattle.sheet_lines.specs.InLine.{partsOf, rising}
+use Rattle.sheet_lines.specs.inner.InLine.{partsOf, rising}
 use Rattle.sheet_lines.proofs.AtPlace.{PartAt, part-at}
 use borrow.Author.Needs.{needs}
 use Rattle.sheet_lines.proofs.later_form.Statement.{statement}

@@ -1,7 +1,7 @@
 -- `sheet_lines::member_form` meets its contract: the numbers behind its keys, read by their places in one text. Assumes nothing.
 use mathlib.Core.Path.{refl, sym, _∙_}
 use Rattle.sheet_lines.specs.Form.{memberKeys, memberForm}
-use Rattle.sheet_lines.specs.InLine.{partsOf, rising}
+use Rattle.sheet_lines.specs.inner.InLine.{partsOf, rising}
 use Rattle.sheet_lines.proofs.AtPlace.{form-told}
 use borrow.Author.Needs.{needs}
 use Rattle.sheet_lines.proofs.member_form.Statement.{statement}

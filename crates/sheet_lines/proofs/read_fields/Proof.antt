@@ -12,7 +12,7 @@ use lib.Seq.{take-suc-set, take-all}
 use Rattle.sheet_lines.specs.declared.number.Number.the-variants.{Is, Not}
 use Rattle.sheet_lines.specs.Number.{fieldAt}
 use Rattle.sheet_lines.specs.Form.{fieldsFrom}
-use Rattle.sheet_lines.specs.InLine.{Starts, partsOf, told}
+use Rattle.sheet_lines.specs.inner.InLine.{Starts, partsOf, told}
 use Rattle.sheet_lines.proofs.AtPlace.{PartAt, part-at, parts-count, small-is, fields-next, fields-none, fields-end}
 use borrow.Author.Needs.{needs}
 use Rattle.sheet_lines.proofs.read_fields.Statement.{statement}

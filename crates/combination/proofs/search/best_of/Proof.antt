@@ -9,7 +9,8 @@ use lib.ListN.{length, getD, drop}
 use mir.Syntax.{w64}
 use mir.Val.{toZ, ofZ}
 use mir.ValLaws.{toZ-ofZ}
-use Rattle.combination.specs.Governing.{sense, bestFrom, best}
+use Rattle.combination.specs.inner.Sense.{sense}
+use Rattle.combination.specs.Governing.{bestFrom, best}
 use Rattle.combination.proofs.Governs.{best-end, best-first, best-turn}
 use borrow.Author.Needs.{needs}
 use Rattle.combination.proofs.search.best_of.Statement.{statement}

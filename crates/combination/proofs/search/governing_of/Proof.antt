@@ -4,11 +4,12 @@ use mathlib.Core.Bool.{true, false}
 use Prim.Native.Nat.{_^_, _≤_}
 use lib.IntN.{natAbs}
 use Rattle.newtons.specs.Effect.{limit}
-use Rattle.effects.specs.Sized.{Seven}
+use Rattle.effects.specs.inner.Sized.{Seven}
 use Rattle.combination.specs.declared.Governing.{Governing}
 use Rattle.combination.specs.declared.GoverningRow.{GoverningRow}
 use Rattle.combination.specs.declared.search.Best.{Best}
-use Rattle.combination.specs.Governing.{sense, sums, best}
+use Rattle.combination.specs.inner.Sense.{sense}
+use Rattle.combination.specs.Governing.{sums, best}
 use Rattle.combination.specs.Combine.{rowOf, governing}
 use Rattle.combination.proofs.Governs.{less-order, greater-order}
 use Rattle.combination.proofs.Answers.{best-held}

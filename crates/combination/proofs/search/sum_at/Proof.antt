@@ -5,7 +5,7 @@ use lib.IntN.{ℤ}
 use lib.ListN.{getD}
 use mir.Syntax.{w64}
 use mir.ValLaws.{toZ-ofZ}
-use Rattle.effects.specs.Sized.{Seven}
+use Rattle.effects.specs.inner.Sized.{Seven}
 use Rattle.combination.specs.Factors.{factors}
 use Rattle.combination.specs.Governing.{sumOf}
 use Rattle.combination.proofs.Table.{row-fits, sum-at}

@@ -9,7 +9,7 @@ use mir.Syntax.{w64}
 use mir.Val.{toZ, ofZ}
 use Rattle.newtons.specs.Effect.{limit}
 use Rattle.newtons.proofs.Word.{kept}
-use Rattle.effects.specs.Sized.{Seven}
+use Rattle.effects.specs.inner.Sized.{Seven}
 use Rattle.combination.specs.Factors.{combinations, factors}
 use Rattle.combination.specs.Governing.{sums}
 use Rattle.combination.proofs.Table.{sums-small}

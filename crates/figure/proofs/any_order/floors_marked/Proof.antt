@@ -12,7 +12,7 @@ use borrow.Author.Tests.{eqb-true, eqb-false}
 use Rattle.lists.specs.Lists.{some}
 use Rattle.lists.proofs.Tests.{cases}
 use Rattle.column.specs.declared.Line.{Line}
-use Rattle.column.specs.Sound.{InLimits, linesBetween}
+use Rattle.column.specs.inner.Sound.{InLimits, linesBetween}
 use Rattle.column.proofs.Lines.{between-none, between-next}
 use Rattle.figure.specs.Carried.{hasFloor, floorsOf}
 use Rattle.figure.proofs.HeldLines.{room, held-at}

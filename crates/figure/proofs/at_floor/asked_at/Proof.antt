@@ -11,14 +11,14 @@ use Rattle.refusal.specs.Said.{gives}
 use Rattle.column.specs.declared.Line.{Line}
 use Rattle.column.specs.declared.Member.{Member}
 use Rattle.column.specs.Column.{linesOf}
-use Rattle.column.specs.Sound.{Held, linesBefore}
+use Rattle.column.specs.inner.Sound.{Held, linesBefore}
 use Rattle.column.proofs.Reach.{sound}
 use Rattle.figure.specs.Carried.{carried, hasFloor, floorsOf, influenceFrom, influenceOf}
 use Rattle.figure.specs.Figure.{figureOf}
 use Rattle.figure.specs.Asked.{workingOf, askedOf, saidWorking}
 use Rattle.figure.specs.declared.rates.Shares.{Shares}
-use Rattle.figure.specs.Totals.{formulaArea}
-use Rattle.figure.specs.Rates.{sharesAt, Shared, figureBy}
+use Rattle.figure.specs.inner.Totals.{formulaArea}
+use Rattle.figure.specs.inner.Rates.{sharesAt, Shared, figureBy}
 use Rattle.figure.proofs.Carried.{area-total}
 use Rattle.figure.proofs.Order.{reached-ordered}
 use Rattle.figure.proofs.HeldLines.{held-before, order-before}

@@ -12,10 +12,10 @@ use Rattle.lists.specs.Lists.{All, none}
 use Rattle.lists.proofs.Tests.{cases}
 use Rattle.lists.proofs.Lists.{all-first, all-back, all-so}
 use Rattle.column.specs.declared.Line.{Line}
-use Rattle.column.specs.Sound.{Held, lineAt, linesBefore}
+use Rattle.column.specs.inner.Sound.{Held, lineAt, linesBefore}
 use Rattle.column.proofs.Lines.{between-more}
 use Rattle.figure.specs.Carried.{floorsOf}
-use Rattle.figure.specs.Totals.{DownTo, Ordered}
+use Rattle.figure.specs.inner.Totals.{DownTo, Ordered}
 use Rattle.figure.proofs.Carried.{Other, floors-run, floors-twice}
 use Rattle.figure.proofs.HeldLines.{room, above-at, above-to}
 use Rattle.figure.proofs.at_floor.floors_before.Statement.{statement}

@@ -7,10 +7,10 @@ use borrow.Author.Tests.{lt-ltb}
 use Rattle.lists.specs.Lists.{All, none, more}
 use Rattle.lists.proofs.Lists.{all-so, all-append}
 use Rattle.column.specs.declared.Line.{Line}
-use Rattle.column.specs.Sound.{Held, lineAt, linesBefore, linesBetween}
+use Rattle.column.specs.inner.Sound.{Held, lineAt, linesBefore, linesBetween}
 use Rattle.column.proofs.Lines.{between-none, between-next, between-split}
 use Rattle.figure.specs.Carried.{carried}
-use Rattle.figure.specs.Totals.{DownTo, Below, Ordered, FrontOf}
+use Rattle.figure.specs.inner.Totals.{DownTo, Below, Ordered, FrontOf}
 use Rattle.figure.proofs.Carried.{Other, has-none, has-in, carried-front}
 use Rattle.figure.proofs.HeldLines.{room, line-between, above-to}
 use Rattle.figure.proofs.at_floor.lines_at.Statement.{statement}

@@ -4,7 +4,7 @@ use Prim.Native.Nat.{ℕ}
 use native.Mathlib.Omega.{arith}
 use borrow.Author.Tests.{ltb-true, eqb-true}
 use Rattle.column.specs.declared.Line.{Line}
-use Rattle.figure.specs.Totals.{SumOf}
+use Rattle.figure.specs.inner.Totals.{SumOf}
 use Rattle.figure.proofs.HeldLines.{room, sum-join}
 use Rattle.figure.proofs.Shares.{figure-kept}
 use borrow.Author.Needs.{needs}

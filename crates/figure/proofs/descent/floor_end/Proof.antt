@@ -6,9 +6,9 @@ use native.Mathlib.Omega.{arith}
 use Rattle.lists.specs.Lists.{All, none}
 use Rattle.lists.proofs.Lists.{all-more}
 use Rattle.column.specs.declared.Line.{Line}
-use Rattle.column.specs.Sound.{linesBetween}
+use Rattle.column.specs.inner.Sound.{linesBetween}
 use Rattle.column.proofs.Lines.{between-none, between-more}
-use Rattle.figure.specs.Totals.{At}
+use Rattle.figure.specs.inner.Totals.{At}
 use Rattle.figure.proofs.HeldLines.{room}
 use Rattle.figure.proofs.descent.floor_end.Statement.{statement}
 use Rattle.figure.proofs.descent.floor_end.Tie as tie

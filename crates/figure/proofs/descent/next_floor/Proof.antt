@@ -3,7 +3,7 @@ use mathlib.Core.Path.{ap}
 use native.Mathlib.Omega.{arith}
 use Rattle.column.specs.declared.Line.{Line}
 use Rattle.figure.specs.declared.rates.Shares.{Shares}
-use Rattle.figure.specs.Rates.{sharesAt}
+use Rattle.figure.specs.inner.Rates.{sharesAt}
 use Rattle.figure.proofs.HeldLines.{room, held-before, sum-join}
 use Rattle.figure.proofs.Shares.{shared-at}
 use Rattle.figure.proofs.Walk.{next-of}

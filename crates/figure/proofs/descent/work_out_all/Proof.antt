@@ -5,7 +5,7 @@ use native.Mathlib.Omega.{arith}
 use lib.ListN.{length}
 use Rattle.column.specs.Column.{columnFrom}
 use Rattle.column.proofs.Reach.{sound}
-use Rattle.figure.specs.Descent.{Descended}
+use Rattle.figure.specs.inner.Descent.{Descended}
 use Rattle.figure.proofs.Workings.{passedTo, passed-none, passed-length}
 use Rattle.figure.proofs.Walk.{descended-top, all-passed, all-summed, lower, next-put}
 use Rattle.figure.proofs.descent.work_out_all.Statement.{statement}

@@ -7,7 +7,7 @@ use Rattle.figure.specs.declared.rates.Rate.{Rate}
 use Rattle.figure.specs.declared.rates.Shares.{Shares}
 use Rattle.reduction.specs.Share.{clampedOf}
 use Rattle.reduction.specs.Scale.{scaleOf}
-use Rattle.figure.specs.Rates.{rateOf, sharesAt, formulaLoad}
+use Rattle.figure.specs.inner.Rates.{rateOf, sharesAt, formulaLoad}
 use Rattle.figure.proofs.ByRate.{by, Sure, Small, formula-small, formula-by}
 use borrow.Author.Needs.{needs}
 use Rattle.figure.proofs.rates.formula_load.Statement.{statement}

@@ -1,7 +1,7 @@
 -- `figure::rates::formula_rate` meets its contract. Assumes nothing.
 use native.Mathlib.Omega.{arith}
 use borrow.Author.Tests.{eq-eqb, ne-eqb}
-use Rattle.figure.specs.Rates.{rootRate, rateOf}
+use Rattle.figure.specs.inner.Rates.{rootRate, rateOf}
 use borrow.Author.Needs.{needs}
 use Rattle.figure.proofs.rates.formula_rate.Statement.{statement}
 use Rattle.figure.proofs.rates.formula_rate.Tie as tie

@@ -7,9 +7,9 @@ use native.Mathlib.Omega.{arith}
 use Rattle.reduction.proofs.Shares.{other-within}
 use Rattle.reduction.proofs.Fits.{formula-load}
 use Rattle.column.specs.Line.{unpacked}
-use Rattle.column.specs.Sound.{InLimits}
+use Rattle.column.specs.inner.Sound.{InLimits}
 use Rattle.figure.specs.Carried.{isFormulaLine}
-use Rattle.figure.specs.Rates.{figureBy}
+use Rattle.figure.specs.inner.Rates.{figureBy}
 use Rattle.figure.proofs.ByRate.{twentieths-small, figure-formula, figure-other}
 use borrow.Author.Needs.{needs}
 use Rattle.figure.proofs.rates.line_figure.Statement.{statement}

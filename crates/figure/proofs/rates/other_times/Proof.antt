@@ -3,7 +3,7 @@ use mathlib.Core.Path.{sym, _∙_, ap}
 use Prim.Native.Nat.{ℕ}
 use native.Mathlib.Omega.{arith}
 use Rattle.figure.specs.declared.rates.Shares.{Shares}
-use Rattle.figure.specs.Rates.{twentiethsRate, sharesAt}
+use Rattle.figure.specs.inner.Rates.{twentiethsRate, sharesAt}
 use Rattle.figure.proofs.ByRate.{key-other, key-assembly}
 use borrow.Author.Needs.{needs}
 use Rattle.figure.proofs.rates.other_times.Statement.{statement}

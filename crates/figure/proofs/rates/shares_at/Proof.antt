@@ -2,7 +2,7 @@
 use native.Mathlib.Omega.{arith}
 use Rattle.reduction.proofs.Shares.{heavy-within}
 use Rattle.reduction.proofs.Twentieths.{clamped-most}
-use Rattle.figure.specs.Rates.{twentiethsRate, sharesAt}
+use Rattle.figure.specs.inner.Rates.{twentiethsRate, sharesAt}
 use borrow.Author.Needs.{needs}
 use Rattle.figure.proofs.rates.shares_at.Statement.{statement}
 use Rattle.figure.proofs.rates.shares_at.Tie as tie

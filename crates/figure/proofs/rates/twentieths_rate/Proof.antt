@@ -1,6 +1,6 @@
 -- `figure::rates::twentieths_rate` meets its contract. Assumes nothing.
 use mathlib.Core.Path.{refl}
-use Rattle.figure.specs.Rates.{twentiethsRate}
+use Rattle.figure.specs.inner.Rates.{twentiethsRate}
 use borrow.Author.Needs.{needs}
 use Rattle.figure.proofs.rates.twentieths_rate.Statement.{statement}
 use Rattle.figure.proofs.rates.twentieths_rate.Tie as tie

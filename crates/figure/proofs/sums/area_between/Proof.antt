@@ -2,7 +2,7 @@
 use mathlib.Core.Path.{_≡_}
 use Prim.Native.Nat.{_-_, _≤_}
 use native.Mathlib.Omega.{arith}
-use Rattle.figure.specs.Totals.{formulaArea, SumOf}
+use Rattle.figure.specs.inner.Totals.{formulaArea, SumOf}
 use Rattle.figure.proofs.HeldLines.{room, held-at, sum-none, sum-next}
 use Rattle.figure.proofs.sums.area_between.Statement.{statement}
 use Rattle.figure.proofs.sums.area_between.Tie as tie

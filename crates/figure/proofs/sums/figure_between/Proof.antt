@@ -2,9 +2,9 @@
 use mathlib.Core.Path.{_≡_}
 use Prim.Native.Nat.{_-_, _≤_}
 use native.Mathlib.Omega.{arith}
-use Rattle.figure.specs.Totals.{SumOf}
+use Rattle.figure.specs.inner.Totals.{SumOf}
 use Rattle.figure.proofs.HeldLines.{room, held-at, sum-none, sum-next}
-use Rattle.figure.specs.Rates.{figureBy}
+use Rattle.figure.specs.inner.Rates.{figureBy}
 use Rattle.figure.proofs.sums.figure_between.Statement.{statement}
 use Rattle.figure.proofs.sums.figure_between.Tie as tie
 

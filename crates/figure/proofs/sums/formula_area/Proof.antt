@@ -2,7 +2,7 @@
 use mathlib.Core.Path.{sym, _∙_, ap}
 use native.Mathlib.Omega.{arith}
 use Rattle.column.specs.declared.Line.{Line}
-use Rattle.figure.specs.Totals.{formulaArea}
+use Rattle.figure.specs.inner.Totals.{formulaArea}
 use borrow.Author.Needs.{needs}
 use Rattle.figure.proofs.sums.formula_area.Statement.{statement}
 use Rattle.figure.proofs.sums.formula_area.Tie as tie

@@ -1,6 +1,6 @@
 -- `records::entering::begun` meets its contract. Assumes nothing.
 use Rattle.column.specs.Column.{columnOf, openedOutcome}
-use Rattle.records.specs.Entering.{outcomeOf}
+use Rattle.records.specs.inner.Entering.{outcomeOf}
 use borrow.Author.Needs.{needs}
 use Rattle.records.proofs.entering.begun.Statement.{statement}
 use Rattle.records.proofs.entering.begun.Tie as tie

@@ -63,7 +63,7 @@ use Rattle.column.proofs.Line.Laws as L′
 use Rattle.records.specs.declared.entering.Entered.{Entered}
 use Rattle.column.specs.Column.{columnFrom, enteredOf, Reached}
 use Rattle.refusal.proofs.Said.{by-number, not-zero}
-use Rattle.records.specs.Entering.{Sits, outcomeOf, enteredAll}
+use Rattle.records.specs.inner.Entering.{Sits, outcomeOf, enteredAll}
 use Rattle.records.proofs.InPlace.{enters, stays as no-change}
 use Rattle.records.proofs.Called.{calls-plain}
 use Rattle.records.proofs.Lent.{word}

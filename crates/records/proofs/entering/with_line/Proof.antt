@@ -1,6 +1,6 @@
 -- `records::entering::with_line` meets its contract. Assumes nothing.
 use Rattle.column.specs.Column.{joinedOutcome}
-use Rattle.records.specs.Entering.{outcomeOf}
+use Rattle.records.specs.inner.Entering.{outcomeOf}
 use borrow.Author.Needs.{needs}
 use Rattle.records.proofs.entering.with_line.Statement.{statement}
 use Rattle.records.proofs.entering.with_line.Tie as tie

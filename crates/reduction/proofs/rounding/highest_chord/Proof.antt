@@ -2,7 +2,6 @@
 use mathlib.Core.Path.{_≡_}
 use Prim.Native.Nat.{ℕ, _*_, _-_, _^_, max, _≤_}
 use native.Mathlib.Omega.{arith}
-use Rattle.reduction.specs.Estimate.{highestChord}
 use borrow.Author.Needs.{needs}
 use Rattle.reduction.proofs.rounding.highest_chord.Statement.{statement}
 use Rattle.reduction.proofs.rounding.highest_chord.Tie as tie
@@ -55,17 +54,21 @@ last-some x h = omega arith
 chord-most : (height fall x : ℕ) → height ≤ 2 ^ 22 → height - fall * x ≤ 2 ^ 22
 chord-most height fall x h = omega arith
 
+-- the highest of the six chords
+abbrev highestChord : ℕ → ℕ
+highestChord x =
+    max
+    (max (max (4141000 - 279 * x) (3170000 - 125 * x)) (max (2425000 - 56 * x) (1854000 - 25 * x)))
+    (max (1410000 - 11 * x) (1084000 - 5 * x))
+
 -- the number is the highest chord
 known : (c : tie.After-greater5) → c .greater5 .result ≡ highestChord (c .before .before .before .before .before .before .before .before .before .before .before .args .x .0)
-unfolding highestChord
 known c = rw (c .greater5 .ensures, c .before .greater4 .ensures, c .before .before .greater3 .ensures, c .before .before .before .chord6 .ensures, c .before .before .before .before .chord5 .ensures, c .before .before .before .before .before .greater2 .ensures, c .before .before .before .before .before .before .chord4 .ensures, c .before .before .before .before .before .before .before .chord3 .ensures, c .before .before .before .before .before .before .before .before .greater .ensures, c .before .before .before .before .before .before .before .before .before .chord2 .ensures, c .before .before .before .before .before .before .before .before .before .before .chord .ensures)
 
 returns : tie.Need-returns
-unfolding highestChord
 returns c =
     let x = c .before .before .before .before .before .before .before .before .before .before .before .args .x .0 in
     let most : (height fall : ℕ) → height ≤ 2 ^ 22 → height - fall * x ≤ 2 ^ 22 = λ height fall. chord-most height fall x in (
-      known c,
       rw (known c) (max-least _ (max-least _ (last-some x (search needs)))),
       rw (known c)
           (max-most (max-most (max-most (most 4141000 279 (omega arith)) (most 3170000 125 (omega arith))) (max-most (most 2425000 56 (omega arith)) (most 1854000 25 (omega arith))))

@@ -8,13 +8,13 @@ enum-known-share : tie.Need-enum-known-share
 enum-known-share c = search needs
 
 twentieths-of-requires : tie.Need-twentieths-of-requires
-twentieths-of-requires c κs = fit-twentieths (c .before .before .before .pre .0) (c .before .share .given .1)
+twentieths-of-requires c κs = fit-twentieths (c .before .before .before .pre) (c .before .share .given .1)
 
 enum-known-share-2 : tie.Need-enum-known-share-2
 enum-known-share-2 c = search needs
 
 root-rounded-requires : tie.Need-root-rounded-requires
-root-rounded-requires c κs = (rw (c .before .share2 .given .1) at (c .before .before .before .pre .0), c .before .before .before .pre .1)
+root-rounded-requires c κs = rw (c .before .share2 .given .1) at (c .before .before .before .pre)
 
 returns : tie.Need-returns
 returns c = rw (c .before .before .share .given .1) (c .twentieths-of .ensures)

@@ -1,7 +1,7 @@
 -- `report::takedown::put_floor` meets its contract: its n tells whether it has a line. Assumes nothing.
 use borrow.Author.Tests.{eq-eqb, ne-eqb}
 use Rattle.text.specs.Put.{puts}
-use Rattle.report.specs.Table.{lineOf}
+use Rattle.report.specs.inner.Table.{lineOf}
 use borrow.Author.Needs.{needs}
 use Rattle.report.proofs.takedown.put_floor.Statement.{statement}
 use Rattle.report.proofs.takedown.put_floor.Tie as tie

@@ -5,7 +5,7 @@ use native.Mathlib.Numerals.{add-one}
 use native.Mathlib.Omega.{arith}
 use Rattle.text.specs.Put.{out, puts}
 use Rattle.text.proofs.Puts.{puts-then, puts-length}
-use Rattle.report.specs.Table.{tableLines}
+use Rattle.report.specs.inner.Table.{tableLines}
 use borrow.Author.Needs.{needs}
 use Rattle.report.proofs.takedown.put_floors.Statement.{statement}
 use Rattle.report.proofs.takedown.put_floors.Tie as tie

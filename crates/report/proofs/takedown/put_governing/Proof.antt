@@ -4,8 +4,9 @@ use Prim.Native.Nat.{ℕ}
 use native.Mathlib.Omega.{arith}
 use Rattle.text.proofs.Puts.{puts-then}
 use Rattle.refusal.specs.Said.{gives}
+use Rattle.effects.specs.declared.Newtons.{Newtons}
 use Rattle.effects.specs.Check.{newtonsOf}
-use Rattle.combination.specs.Combine.{governing, governedOf, saidGoverned}
+use Rattle.combination.specs.Combine.{governing, governed, saidGoverned}
 use Rattle.combination.proofs.Answers.{newtons-governed}
 use Rattle.report.specs.Report.{effectsWith, governingLines}
 use Rattle.report.proofs.Live.{seven-with}
@@ -19,7 +20,7 @@ answered : (c : tie.After-govern)
 answered c =
     let s = c .before .before .before in
     c .govern .ensures .0
-    ∙ (ap governedOf (c .before .newtons-with .ensures) ∙ newtons-governed (effectsWith (s .args .effects) (s .args .live)) (seven-with (s .args .effects) (s .args .live) (s .pre .0) (s .pre .1)))
+    ∙ (ap (λ (n : Newtons). governed (newtonsOf n)) (c .before .newtons-with .ensures) ∙ newtons-governed (effectsWith (s .args .effects) (s .args .live)) (seven-with (s .args .effects) (s .args .live) (s .pre .0) (s .pre .1)))
 
 given : (c : tie.After-governed)
     → let s = c .before .before .before .before .before in

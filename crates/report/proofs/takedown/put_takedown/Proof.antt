@@ -6,7 +6,7 @@ use Rattle.figure.proofs.Lowest.{lowest-most}
 use Rattle.sheet.specs.declared.Sheet.{Sheet}
 use Rattle.column.specs.Column.{columnFrom}
 use Rattle.report.specs.Report.{liveOf, effectsOf, takedownOf}
-use Rattle.report.specs.Table.{sheetFrom}
+use Rattle.report.specs.inner.Table.{sheetFrom}
 use Rattle.report.proofs.Table.{table-lines}
 use borrow.Author.Needs.{needs}
 use Rattle.report.proofs.takedown.put_takedown.Statement.{statement}

@@ -2,7 +2,8 @@
 use mathlib.Core.Path.{_≡_, ap}
 use borrow.Author.Tests.{ne-eqb}
 use Rattle.column.specs.declared.Column.{Column}
-use Rattle.column.specs.Column.{columnOf, noPlaces, openedOutcome}
+use Rattle.column.specs.Column.{columnOf, openedOutcome}
+use Rattle.column.specs.inner.Sound.{noPlaces}
 use Rattle.sheet.specs.Sheet.{ifTaken, valued}
 use borrow.Author.Needs.{needs}
 use Rattle.sheet.proofs.steps.open_member.Statement.{statement}

@@ -7,7 +7,7 @@ use Rattle.refusal.specs.Refusal.{numberOf}
 use Rattle.refusal.specs.Said.{gives}
 use Rattle.sheet_lines.specs.Form.{effectSaid, saidForm}
 use Rattle.sheet.specs.Sheet.{ifTaken, valued, lineTaken}
-use Rattle.sheet.specs.InPlace.{draftOf}
+use Rattle.sheet.specs.inner.InPlace.{draftOf}
 use Rattle.sheet.proofs.Kept.{Ready, line-ready}
 use borrow.Author.Needs.{needs}
 use Rattle.sheet.proofs.steps.take_line.Statement.{statement}

@@ -1,7 +1,7 @@
 -- `sheet_lines::number::field_at` meets its contract: the key, and then the number. Assumes nothing.
 use mathlib.Core.Path.{refl, sym, _∙_}
 use Rattle.sheet_lines.specs.Number.{fieldAt}
-use Rattle.sheet_lines.specs.InLine.{Small}
+use Rattle.sheet_lines.specs.inner.InLine.{Small}
 use Rattle.sheet_lines.proofs.AtPlace.{key-within}
 use borrow.Author.Needs.{needs}
 use Rattle.sheet_lines.proofs.number.field_at.Statement.{statement}

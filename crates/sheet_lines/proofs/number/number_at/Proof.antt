@@ -7,7 +7,7 @@ use lib.Dec.{lit<}
 use lib.ListN.{length, drop}
 use borrow.Author.Tests.{not-true, not-false}
 use Rattle.sheet_lines.specs.Number.{numberFrom, numberAt}
-use Rattle.sheet_lines.specs.InLine.{Small}
+use Rattle.sheet_lines.specs.inner.InLine.{Small}
 use Rattle.sheet_lines.proofs.AtPlace.{number-end, number-low, number-high, number-digit, grow-only, grown, below, ended-small}
 use borrow.Author.Needs.{needs}
 use Rattle.sheet_lines.proofs.number.number_at.Statement.{statement}

@@ -1,0 +1,3 @@
+-- What only private functions ask, and laws say; no promise reaches it.
+pub mod InPlace
+pub mod SoFar
