@@ -2,7 +2,7 @@
 // them beside each other on everything else, refusals included.
 use crate::bungero::{self, Refused, RefusedList, Working};
 use crate::inputs::{Reducible, Work};
-use crate::plain::column::{figure_of, Entry};
+use crate::plain::column::{figure_of, Column, Entry};
 use crate::plain::combination::combine;
 use crate::plain::reduction::reduced_load;
 use crate::plain::report::printed;
@@ -13,6 +13,7 @@ pub fn check(work: &Work) {
     match work {
         Work::Reducing(lines) => lines.iter().copied().for_each(check_reduced_load),
         Work::Entering(entries) | Work::Asking(entries) => check_column(entries),
+        Work::Pasting(entries) => check_pasted(entries),
         Work::Listing(entries) => check_list(entries),
         Work::TakingDown(text) => check_sheet(text),
         Work::Combining(effects) => effects.iter().for_each(check_combination),
@@ -33,6 +34,15 @@ fn check_column(entries: &[Entry]) {
         let wanted = plain.ask(floor).map(Working::from).map_err(Refused::from);
         assert_eq!(proved.ask(floor), wanted, "asking at {floor}");
     }
+}
+
+// A paste keeps all, and leaves the column that entering leaves.
+fn check_pasted(entries: &[Entry]) {
+    let records = records(entries);
+    let (mut proved, mut plain) = (bungero::Column::open(1).unwrap(), Column::open(1).unwrap());
+    assert_eq!((proved.paste(&records), plain.paste(entries)), (Ok(()), Ok(())), "pasting");
+    assert!(proved == proved_filled(&records), "the column after pasting");
+    check_column(entries);
 }
 
 // What a list gives at every floor and beyond.

@@ -17,6 +17,7 @@ pub type Reducible = [u64; 4];
 pub enum Work {
     Reducing(Vec<Reducible>),
     Entering(Vec<Entry>),
+    Pasting(Vec<Entry>),
     Listing(Vec<Entry>),
     Asking(Vec<Entry>),
     TakingDown(Vec<u8>),
@@ -30,6 +31,8 @@ pub fn jobs() -> Vec<(String, Work)> {
         ("reduced load, root share", Work::Reducing(root_shares(&mut random, 4_096))),
         ("reduced load, all shares of formula lines", Work::Reducing(all_shares(&mut random, 4_096))),
         ("open and enter 256 lines", Work::Entering(formula_lines(64, 150))),
+        ("open and paste 40 lines", Work::Pasting(formula_lines(10, 150))),
+        ("open and paste 256 lines", Work::Pasting(formula_lines(64, 150))),
         ("list call, 256 lines, at the last floor", Work::Listing(formula_lines(64, 150))),
         ("ask, 256 lines, root share", Work::Asking(formula_lines(64, 150))),
         ("ask, 256 lines, least share", Work::Asking(formula_lines(64, 200_000))),

@@ -76,6 +76,22 @@ fn entering_job(what: &str, entries: Vec<Entry>) -> Job {
     Job::new(what, 1, proved, plain)
 }
 
+// Pasting lines on a fresh column, which is used where it was opened.
+fn pasting_job(what: &str, entries: Vec<Entry>) -> Job {
+    let records = records(&entries);
+    let proved = move || {
+        let mut column = bungero::Column::open(1).unwrap();
+        column.paste(black_box(&records)).unwrap();
+        keep(&column);
+    };
+    let plain = move || {
+        let mut column = Column::open(1).unwrap();
+        column.paste(black_box(&entries)).unwrap();
+        keep(&column);
+    };
+    Job::new(what, 1, proved, plain)
+}
+
 // The figure of a list at its last floor.
 fn list_job(what: &str, entries: Vec<Entry>) -> Job {
     let records = records(&entries);
@@ -125,6 +141,7 @@ fn job(what: &str, work: Work) -> Job {
     match work {
         Work::Reducing(lines) => reduced_load_job(what, lines),
         Work::Entering(entries) => entering_job(what, entries),
+        Work::Pasting(entries) => pasting_job(what, entries),
         Work::Listing(entries) => list_job(what, entries),
         Work::Asking(entries) => asking_job(what, entries),
         Work::TakingDown(text) => takedown_job(what, text),

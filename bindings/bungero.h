@@ -1,14 +1,15 @@
 /* Bungero for programs in C and C++: the calls of the proved static library libexports.a (x86-64 Linux, C11 or C++11).
 
-   What is right is decided by paper 01, "Column live loads by CIRSOC 101, and their combinations". Every call answers every
-   input, as the comment on it says; but a column, which bungero_enter and bungero_ask take, must be as these calls gave it. A
-   `number` in an answer is 0 where no condition of the paper holds, else the number of the first one that does
+   What is right is decided by paper 01, "Column live loads by CIRSOC 101, and their combinations", and by the requests of paper
+   02. Every call answers every input, as the comment on it says; but a column that is handed over must be as these calls gave
+   it. A `number` in an answer is 0 where no condition of the papers holds, else the number of the first one that does
    (`bungero_refusal`); all else in the answer is then 0 unless the comment says otherwise. Where something is refused, a
    `place` counts the records of a list or the seven effects, a `line` the lines of a sheet, each from 1.
 
    Structs go by value. What is lent by pointer is only read, but for `out` of bungero_report and a column's places in
-   bungero_enter. Lent places and lines must be aligned to 8 bytes; texts and `out` may stand anywhere. Some structs have
-   padding, whose bytes have no value: compare members, not whole structs by memcmp. bungero.rs has the same names.
+   bungero_enter and bungero_paste; where something is refused it is all as before, but for the lines before the refused one,
+   which bungero_paste keeps. Lent places and lines must be aligned to 8 bytes; texts and `out` may stand anywhere. Some structs
+   have padding, whose bytes have no value: compare members, not whole structs by memcmp. bungero.rs has the same names.
 
    No call keeps a pointer or anything else: there is no state, no heap, and no function of the C library is called but memcpy
    and memset. So calls may run in several threads at once, and in a signal handler, as long as none writes to memory that
@@ -79,8 +80,8 @@ typedef struct bungero_member {
 } bungero_member;
 
 /* A member and its accepted lines, each as one number. Opaque: a caller may copy it whole, and lend it to the calls below, and
-   no more. A column must be one that bungero_open or bungero_read with number 0 gave, changed by bungero_enter alone; of any
-   other nothing is promised. */
+   no more. A column must be one that bungero_open or bungero_read with number 0 gave, or made as bungero_open_member says, and
+   changed by bungero_enter and bungero_paste alone; of any other nothing is promised. */
 typedef struct bungero_column {
     bungero_member member;
     uint16_t count;
@@ -93,11 +94,24 @@ typedef struct bungero_opened {
     bungero_column column;
 } bungero_opened;
 
+/* What bungero_open_member gives. */
+typedef struct bungero_opened_member {
+    uint64_t number;
+    bungero_member member;
+} bungero_opened_member;
+
 /* What bungero_enter gives. */
 typedef struct bungero_entered {
     uint64_t number;
     uint16_t count;                /* how many lines the column then holds */
 } bungero_entered;
+
+/* What bungero_paste gives. */
+typedef struct bungero_pasted {
+    uint64_t number;               /* of the first refused line; 0 where all lines are kept */
+    uint16_t kept;                 /* how many lines of the list are kept: those before the refused one */
+    uint16_t count;                /* how many lines the column then holds */
+} bungero_pasted;
 
 /* What bungero_ask gives: at a floor, of the lines carried there. */
 typedef struct bungero_figure {
@@ -184,17 +198,26 @@ typedef struct bungero_reported {
 } bungero_reported;
 
 /* Opens a member: for a code of 1 to 12, number 0 and its column without lines. For any other code number 1, and in the
-   column's place one with member code 0, which bungero_column_enter and bungero_column_ask refuse. */
+   column's place one with member code 0, which bungero_column_enter, _paste and _ask refuse. */
 bungero_opened bungero_open(uint64_t code);
 
-/* The calls of the library behind bungero_column_enter and bungero_column_ask, which are what a program uses: a column is lent
-   in its parts, and entering writes to the places where the line is accepted and gives the column's new count. The parts must
-   be those of one column as bungero_open or bungero_read with number 0 gave it, or bungero_enter after that; of others nothing
-   is promised. Entering writes no place before the count: where it is cut off, by a signal or the end of a thread, the column
-   with its old count has the lines that it had, until the caller stores the count that is given. That the calls go on from it
-   as from the column before is tried, and not proved. */
+/* The same without the column's 2 KB, for a binding that keeps columns itself: number 0 and the member for a code of 1 to 12,
+   of which this member, a count of 0 and 256 places that are all 0 make the column that bungero_open gives. For any other code
+   number 1, and a member of code 0. */
+bungero_opened_member bungero_open_member(uint64_t code);
+
+/* The calls of the library behind bungero_column_enter, _paste and _ask, which are what a program uses: a column is lent in
+   its parts, and entering and pasting write to the places where a line is accepted and give the column's new count. The parts
+   must be those of one such column; of others nothing is promised. bungero_paste takes the lines as numbers, four a line, and
+   `numbers` counts these, so it is four times the count of lines; one to three left over at the end are no line. They are only
+   read, may not overlap the places, and `lines` may be NULL where there are none. Entering and pasting write no place before
+   the count: where they are cut off, by a signal or the end of a thread, the column with its old count has the lines that it
+   had, until the caller stores the count that is given. That the calls go on from it as from the column before is tried, and
+   not proved. */
 bungero_entered bungero_enter(uint64_t held[BUNGERO_LINES], bungero_member member, uint16_t count, uint64_t floor,
                               uint64_t use_class, uint64_t load, uint64_t area);
+bungero_pasted bungero_paste(uint64_t held[BUNGERO_LINES], bungero_member member, uint16_t count, const uint64_t *lines,
+                             size_t numbers);
 bungero_figure bungero_ask(const uint64_t held[BUNGERO_LINES], bungero_member member, uint16_t count, uint64_t floor);
 
 /* Enters a line at the end of the accepted lines of a column, one as these calls gave it: number 0, and the column has the
@@ -209,6 +232,19 @@ static inline uint64_t bungero_column_enter(bungero_column *column, bungero_line
                                             line.load, line.area);
     column->count = entered.count;
     return entered.number;
+}
+
+/* Enters `count` lines on a column, one as these calls gave it, in order, up to and with the first refused one: number 0, and
+   the column has them all. Else number 2, 3, 4, 5 or 6, as entering the line lines[kept] gives it. The lines before that one
+   are kept, so the column is not as before where there are any; those after it are not looked at. Number 1, and nothing is
+   touched, where no member was opened. `lines` is only read, may not overlap the column, and may be NULL where `count` is 0. */
+static inline bungero_pasted bungero_column_paste(bungero_column *column, const bungero_line *lines, size_t count) {
+    bungero_pasted pasted = {BUNGERO_CODE, 0, 0};
+    if (column->member.code != 0) {
+        pasted = bungero_paste(column->held, column->member, column->count, (const uint64_t *)lines, 4 * count);
+        column->count = pasted.count;
+    }
+    return pasted;
 }
 
 /* Asks at a floor of a column, one as these calls gave it: number 0 and n, X and the figure over the accepted lines with floor
@@ -246,8 +282,8 @@ bungero_combined bungero_combine(bungero_effects effects);
    that it can be asked and entered on, its effects, and the empty part at the end of the text. Else 1 to 6, 9, 10 or 11, the
    line K and the part of the text that is refused: the line without its newline, the empty part at the end where a line is
    missing, the empty part at the start for 11. Column and effects are then what was read before that line, for whoever wants
-   to show it; the column has no member where that line is the member's. The text may hold any bytes and be of any length (above 32,768 it is refused with 11), and is only
-   read; it may be NULL where `length` is 0. */
+   to show it; the column has no member where that line is the member's. The text may hold any bytes and be of any length
+   (above 32,768 it is refused with 11), and is only read; it may be NULL where `length` is 0. */
 bungero_reading bungero_read(const uint8_t *text, size_t length);
 
 /* What takedown prints for a sheet of `length` bytes, written to the start of `out`: number 0, and each floor's working and the
@@ -264,7 +300,9 @@ BUNGERO_AT(line, area, 24);
 BUNGERO_SIZE(member, 1); BUNGERO_AT(member, code, 0);
 BUNGERO_SIZE(column, 2056); BUNGERO_AT(column, member, 0); BUNGERO_AT(column, count, 2); BUNGERO_AT(column, held, 8);
 BUNGERO_SIZE(opened, 2064); BUNGERO_AT(opened, number, 0); BUNGERO_AT(opened, column, 8);
+BUNGERO_SIZE(opened_member, 16); BUNGERO_AT(opened_member, number, 0); BUNGERO_AT(opened_member, member, 8);
 BUNGERO_SIZE(entered, 16); BUNGERO_AT(entered, number, 0); BUNGERO_AT(entered, count, 8);
+BUNGERO_SIZE(pasted, 16); BUNGERO_AT(pasted, number, 0); BUNGERO_AT(pasted, kept, 8); BUNGERO_AT(pasted, count, 10);
 BUNGERO_SIZE(figure, 32); BUNGERO_AT(figure, number, 0); BUNGERO_AT(figure, floors, 8); BUNGERO_AT(figure, influence, 16);
 BUNGERO_AT(figure, figure, 24);
 BUNGERO_SIZE(reduced, 16); BUNGERO_AT(reduced, number, 0); BUNGERO_AT(reduced, reduced, 8);

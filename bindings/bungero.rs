@@ -2,8 +2,9 @@
 //
 // Put this file into a program with `mod bungero;` and link with `-L DIRECTORY -l static=exports` (x86-64 Linux).
 // Refusals come as `Err` with the paper's number, which `refusal` names: a `Refused`; a `RefusedList` with the place of a line
-// in a list; a `RefusedSheet` with the line of a sheet; or a `RefusedEffect` with which of the seven it is. What bungero.h
-// says of names, memory and the stack holds here too; to the stack come the copies of columns, 2 KB, and reports, 4 KB.
+// in a list; a `RefusedPaste` with how many lines before it are kept; a `RefusedSheet` with the line of a sheet; or a
+// `RefusedEffect` with which of the seven it is. What bungero.h says of names, memory and the stack holds here too; to the
+// stack come the copies of columns, 2 KB, and reports, 4 KB.
 #![allow(dead_code, unused_imports)] // few programs use all of the calls
 
 use std::fmt;
@@ -93,11 +94,29 @@ pub mod raw {
         pub column: Column,
     }
 
+    /// What opening gives without the column: the number, and the member; of code 0 where it is refused.
+    #[repr(C)]
+    #[derive(Clone, Copy, Debug, PartialEq, Eq)]
+    pub struct OpenedMember {
+        pub number: u64,
+        pub member: Member,
+    }
+
     /// What entering gives: the number, and how many lines the column then holds.
     #[repr(C)]
     #[derive(Clone, Copy, Debug, PartialEq, Eq)]
     pub struct Entered {
         pub number: u64,
+        pub count: u16,
+    }
+
+    /// What pasting gives: the number of the first refused line, how many lines of the list are kept, and how many lines the
+    /// column then holds.
+    #[repr(C)]
+    #[derive(Clone, Copy, Debug, PartialEq, Eq)]
+    pub struct Pasted {
+        pub number: u64,
+        pub kept: u16,
         pub count: u16,
     }
 
@@ -231,6 +250,8 @@ pub mod raw {
         pub fn bungero_layout_1() -> u64;
         /// Opens a member.
         pub fn bungero_open(code: u64) -> Opened;
+        /// Opens a member for a caller that has the places itself: with a count of 0 and each place 0 they are its column.
+        pub fn bungero_open_member(code: u64) -> OpenedMember;
         /// Enters a line on a column lent in its parts, which must be one that these calls gave; writes to `held` where it is
         /// accepted, and the column's count is then the one in the answer.
         pub fn bungero_enter(
@@ -242,6 +263,11 @@ pub mod raw {
             load: u64,
             area: u64,
         ) -> Entered;
+        /// Enters lines, lent as so many numbers, four a line, that are only read, on a column lent in its parts, which must
+        /// be one that these calls gave; up to and with the first refused line. The lines before it are written to `held`,
+        /// which they may not overlap, and the column's count is then the one in the answer. `lines` may be null where
+        /// there are none.
+        pub fn bungero_paste(held: *mut Places, member: Member, count: u16, lines: *const u64, numbers: usize) -> Pasted;
         /// Asks at a floor of a column lent in its parts, which must be one that these calls gave.
         pub fn bungero_ask(held: *const Places, member: Member, count: u16, floor: u64) -> Figure;
         /// The reduced load R of a line, at n floors and influence area X.
@@ -276,7 +302,9 @@ layout! {
     Member size 1 align 1: code 0;
     Column size 2056 align 8: member 0, count 2, held 8;
     Opened size 2064 align 8: number 0, column 8;
+    OpenedMember size 16 align 8: number 0, member 8;
     Entered size 16 align 8: number 0, count 8;
+    Pasted size 16 align 8: number 0, kept 8, count 10;
     Figure size 32 align 8: number 0, floors 8, influence 16, figure 24;
     Reduced size 16 align 8: number 0, reduced 8;
     Listed size 40 align 8: number 0, place 8, floors 16, influence 24, figure 32;
@@ -376,6 +404,22 @@ impl fmt::Display for RefusedList {
 
 impl std::error::Error for RefusedList {}
 
+/// Why not all lines of a list are entered: the number of the first refused line, and how many lines before it are kept, so
+/// that its index is `kept`, and its place, counted from 1, `kept + 1`.
+#[derive(Clone, Copy, Debug, PartialEq, Eq)]
+pub struct RefusedPaste {
+    pub number: u64,
+    pub kept: usize,
+}
+
+impl fmt::Display for RefusedPaste {
+    fn fmt(&self, f: &mut fmt::Formatter) -> fmt::Result {
+        write!(f, "refused={} kept={}", self.number, self.kept)
+    }
+}
+
+impl std::error::Error for RefusedPaste {}
+
 /// Why a sheet is not read: the number; the line K, counted from 1, a missing one as the next, 0 for number 11; and that line
 /// in the caller's own text, without its newline: empty at the text's end where it is missing, at its start for 11. It
 /// prints what *takedown* prints, and lives no longer than the text.
@@ -444,28 +488,35 @@ impl From<SheetEffects> for [i64; 6] {
     }
 }
 
-/// A member and its accepted lines. Only `open` and `read` make one and only `enter` changes it. The count stands by itself, so
-/// that no wide read of it with the member has to wait until its narrow store is done.
+// The count of a column's lines in a word of its own: a load of it that spans the places just cleared, or that takes the
+// member along, cannot be forwarded from the store before it, and stalls.
+#[derive(Clone, Copy, Debug, PartialEq, Eq)]
+#[repr(align(8))]
+struct Count(u16);
+
+/// A member and its accepted lines. Only `open` and `read` make one and only `enter` and `paste` change it.
 #[derive(Clone, Debug, PartialEq, Eq)]
+#[repr(C)]
 pub struct Column {
     held: raw::Places,
-    count: u16,
     member: raw::Member,
+    count: Count,
 }
 
 impl Column {
-    // A column that opening or reading gave with number 0.
+    // A column that reading gave with number 0.
     fn of(column: raw::Column) -> Column {
         let raw::Column { member, count, held } = column;
-        Column { held, count, member }
+        Column { held, member, count: Count(count) }
     }
 
     /// Opens a member without lines; 1 where the code is not 1 to 12.
     pub fn open(code: u64) -> Result<Column, Refused> {
         // SAFETY: the call takes every code and touches no memory of ours.
-        let opened = unsafe { raw::bungero_open(code) };
+        let opened = unsafe { raw::bungero_open_member(code) };
         match opened.number {
-            0 => Ok(Column::of(opened.column)),
+            // With each place 0 it is the column that opening gives, as the call promises.
+            0 => Ok(Column { held: [0; LINES], member: opened.member, count: Count(0) }),
             number => Err(Refused { number }),
         }
     }
@@ -473,19 +524,38 @@ impl Column {
     /// Enters a line at the end of the accepted ones; or 2 to 6, and the column is as before.
     pub fn enter(&mut self, line: Line) -> Result<(), Refused> {
         let Line { floor, use_class, load, area } = line;
-        // SAFETY: the column is one that a call gave, changed only by entering; its places are borrowed for us alone.
-        let entered = unsafe { raw::bungero_enter(&mut self.held, self.member, self.count, floor, use_class, load, area) };
-        self.count = entered.count;
+        // SAFETY: the column is one that a call gave, changed only by these calls; its places are borrowed for us alone.
+        let entered = unsafe { raw::bungero_enter(&mut self.held, self.member, self.count.0, floor, use_class, load, area) };
+        self.count = Count(entered.count);
         match entered.number {
             0 => Ok(()),
             number => Err(Refused { number }),
         }
     }
 
+    /// Enters all of some lines, in order, at the end of the accepted ones; or 2 to 6 for the first refused one. The lines
+    /// before that one are kept, so the column is not as before where there are any; those after it are not looked at.
+    pub fn paste(&mut self, lines: &[Line]) -> Result<(), RefusedPaste> {
+        let (numbers, length) = (lines.as_ptr().cast(), 4 * lines.len());
+        // SAFETY: the column is one that a call gave, changed only by these calls; its places are borrowed for us alone. A line
+        // is four numbers in C's layout, so the slice is one of so many numbers, which the call only reads.
+        let pasted = unsafe { raw::bungero_paste(&mut self.held, self.member, self.count.0, numbers, length) };
+        self.count = Count(pasted.count);
+        match pasted.number {
+            0 => Ok(()),
+            number => Err(RefusedPaste { number, kept: pasted.kept.into() }),
+        }
+    }
+
+    /// How many lines it holds.
+    pub fn count(&self) -> usize {
+        self.count.0.into()
+    }
+
     /// Asks at a floor; 7 where no accepted line has that floor.
     pub fn ask(&self, floor: u64) -> Result<Working, Refused> {
-        // SAFETY: the column is one that a call gave, changed only by entering; its places are only read.
-        let asked = unsafe { raw::bungero_ask(&self.held, self.member, self.count, floor) };
+        // SAFETY: the column is one that a call gave, changed only by these calls; its places are only read.
+        let asked = unsafe { raw::bungero_ask(&self.held, self.member, self.count.0, floor) };
         match asked.number {
             0 => Ok(Working { floors: asked.floors, influence: asked.influence, figure: asked.figure }),
             number => Err(Refused { number }),

@@ -1,4 +1,5 @@
-// A member and its lines in plain Rust: opening, entering, asking at one floor or all, and the figure of a lent list.
+// A member and its lines in plain Rust: opening, entering, pasting, asking at one floor or all, and the figure of a lent
+// list.
 use super::reduction::{is_formula, Class, Shares};
 use super::{Refusal, RefusedAt};
 
@@ -85,6 +86,14 @@ impl Column {
         let class = entry.check(self.lines.len(), self.last_floor)?;
         self.last_floor = entry.floor;
         self.lines.push(Line { floor: entry.floor as u8, class, load: entry.load as u16, area: entry.area as u32 });
+        Ok(())
+    }
+
+    // Enters lines in order, up to and with the first refused one, whose place counts from 1; those before it are kept.
+    pub fn paste(&mut self, entries: &[Entry]) -> Result<(), RefusedAt> {
+        for (kept, entry) in entries.iter().enumerate() {
+            self.enter(entry).map_err(|refusal| RefusedAt { refusal, place: kept as u64 + 1 })?;
+        }
         Ok(())
     }
 

@@ -8,13 +8,13 @@ mod bungero;
 mod plain;
 #[path = "../bench/random.rs"]
 mod random;
+#[allow(dead_code)]
+mod raw_column;
 
-use bungero::{raw, Column, Refused, Working, LINES};
+use bungero::{Column, Refused, Working, LINES};
 use plain::column::Entry;
 use random::Random;
-
-const CANARIES: usize = 16; // watched on either side of the places
-const CANARY: u64 = 0xa5a5_a5a5_a5a5_a5a5;
+use raw_column::RawColumn;
 
 // Numbers outside the limits of a floor, a class, a load and an area; some look right when cut to fewer bits.
 const OUTSIDE: [[u64; 5]; 4] = [
@@ -23,56 +23,6 @@ const OUTSIDE: [[u64; 5]; 4] = [
     [0, 50_001, 65_536 + 2_000, (1 << 32) + 2_000, u64::MAX],
     [0, 200_001, 1 << 32, (1 << 32) + 1_600, u64::MAX],
 ];
-
-// A column as the raw calls have it.
-struct RawColumn {
-    member: raw::Member,
-    count: u16,
-    lent: Vec<u64>, // the column's places, between canaries
-}
-
-impl RawColumn {
-    fn open(code: u64) -> RawColumn {
-        let opened = unsafe { raw::bungero_open(code) };
-        assert_eq!((opened.number, opened.column.count), (0, 0), "opening {code}");
-        let canaries = [CANARY; CANARIES];
-        let lent = [&canaries[..], &opened.column.held, &canaries].concat();
-        RawColumn { member: opened.column.member, count: 0, lent }
-    }
-
-    // The number of an entry. A refused one changes nothing, an accepted one no canary.
-    fn enter(&mut self, entry: Entry) -> u64 {
-        let before = self.lent.clone();
-        let Entry { floor, class, load, area } = entry;
-        let places = self.lent[CANARIES..].as_mut_ptr().cast::<raw::Places>();
-        // SAFETY: the places are those that opening gave, changed only here, and the count is the last one given.
-        let entered = unsafe { raw::bungero_enter(places, self.member, self.count, floor, class, load, area) };
-        if entered.number != 0 {
-            assert!(self.lent == before && entered.count == self.count, "a refused line changed the column");
-            return entered.number;
-        }
-        let mut beside = self.lent[..CANARIES].iter().chain(&self.lent[CANARIES + LINES..]);
-        assert!(beside.all(|&each| each == CANARY), "written past the places");
-        assert_eq!(entered.count, self.count + 1, "an accepted line is not counted");
-        self.count = entered.count;
-        0
-    }
-
-    // What asking gives; it changes nothing, and a refusal comes alone.
-    fn ask(&self, floor: u64) -> Result<Working, Refused> {
-        let before = self.lent.clone();
-        let places = self.lent[CANARIES..].as_ptr().cast::<raw::Places>();
-        // SAFETY: as in `enter`.
-        let asked = unsafe { raw::bungero_ask(places, self.member, self.count, floor) };
-        assert!(self.lent == before, "asking changed the column");
-        let working = Working { floors: asked.floors, influence: asked.influence, figure: asked.figure };
-        if asked.number == 0 {
-            return Ok(working);
-        }
-        assert_eq!(working, Working { floors: 0, influence: 0, figure: 0 }, "a figure beside a refusal");
-        Err(Refused { number: asked.number })
-    }
-}
 
 // One column by all three ways.
 struct Trial {

@@ -29,7 +29,7 @@ OF_A_CRATE = "check dev staticlib try must-fail goals mir".split()
 # Words of the kit, of Rust, of the shell and of C that documents use; and signs of the reckonings, as N and K.
 OF_OTHERS = set(
     "antt bash cond file ensures fn ghost grep incremental let memcpy memset mod Need new old position printf python3 pub "
-    "requires rt run trusted u64 unfolding use Vec where write io specs Counts TMPDIR N K O C double class record abbrev "
+    "requires rt run trusted u64 unfolding use Vec where write io specs Counts TMPDIR N K O C CR double class record abbrev "
     "unfoldable".split()
 )
 # How a name is declared: in definitions and proofs, in Rattle and Rust, in C, in Python and in scripts; and a sheet's keys.

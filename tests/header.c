@@ -77,6 +77,18 @@ static void expect_no_floor(const bungero_column *column, uint64_t floor)
     expect("figure, refused", asked.figure, 0);
 }
 
+/* Opening without the places: the number and the member of bungero_open, whose column has places of 0. */
+static void try_open_member(uint64_t code)
+{
+    static const uint64_t empty[BUNGERO_LINES] = {0};
+    bungero_opened opened = bungero_open(code);
+    bungero_opened_member member = bungero_open_member(code);
+    expect("opening a member", member.number, opened.number);
+    expect("the member's code", member.member.code, opened.column.member.code);
+    expect("no line", opened.column.count, 0);
+    expect("empty places", memcmp(opened.column.held, empty, sizeof empty) == 0, 1);
+}
+
 /* The sample's two lines with refused ones after them, and a full column. */
 static void try_column(void)
 {
@@ -106,6 +118,44 @@ static void try_column(void)
     }
     expect_refused(&column, line_of(64, 3, 1, 1), BUNGERO_FULL);
     expect_working(&column, 64, 3, 12800, 4185600 + 254);
+}
+
+/* What pasting must give, and how many lines the column then holds. */
+static void expect_pasted(bungero_column *column, const bungero_line *lines, size_t count, uint64_t number, uint64_t kept)
+{
+    uint64_t held = column->count;
+    bungero_pasted pasted = bungero_column_paste(column, lines, count);
+    expect("pasting, number", pasted.number, number);
+    expect("pasting, kept", pasted.kept, kept);
+    expect("pasting, count", pasted.count, held + kept);
+    expect("the column's count", column->count, held + kept);
+}
+
+/* The sample's two lines pasted, then with each kind of refused line between them, no list at all, and a full column. */
+static void try_paste(void)
+{
+    bungero_line lines[3] = {line_of(1, 1, 2000, 1600), line_of(2, 1, 2000, 1600), line_of(2, 1, 2000, 1600)};
+    bungero_column column = bungero_open(1).column;
+    expect_pasted(&column, NULL, 0, BUNGERO_ACCEPTED, 0);
+    expect_pasted(&column, lines, 2, BUNGERO_ACCEPTED, 2);
+    expect_working(&column, 2, 2, 12800, 4185600);
+    expect_pasted(&column, lines, 2, BUNGERO_FLOOR, 0);
+    const bungero_line wrong[4] = {line_of(wide_one, 1, 2000, 1600), line_of(2, wide_one, 2000, 1600),
+                                   line_of(2, 1, wide_one, 1600), line_of(2, 1, 2000, wide_one)};
+    for (int which = 0; which < 4; which++) {
+        column = bungero_open(1).column;
+        lines[1] = wrong[which];
+        expect_pasted(&column, lines, 3, (uint64_t)(BUNGERO_FLOOR + which), 1);
+        expect_working(&column, 1, 1, 6400, 2628800);
+        expect_no_floor(&column, 2);
+    }
+    for (int held = 1; held < 255; held++) {
+        expect_pasted(&column, &lines[2], 1, BUNGERO_ACCEPTED, 1);
+    }
+    lines[1] = line_of(3, 4, 0, 0);
+    expect_pasted(&column, &lines[2], 1, BUNGERO_ACCEPTED, 1);
+    expect_pasted(&column, &lines[1], 2, BUNGERO_FULL, 0);
+    expect_pasted(&column, NULL, 0, BUNGERO_ACCEPTED, 0);
 }
 
 /* What the list call must give: the sample's working at its second floor where nothing is refused. */
@@ -294,10 +344,13 @@ static void try_report(void)
     expect_report("member=13\n", 10, BUNGERO_CODE, 1, "");
 }
 
-/* The column of a refused opening: entering and asking refuse, and nothing is touched. */
+/* The column of a refused opening: entering, pasting and asking refuse, and nothing is touched. */
 static void try_unopened(void)
 {
     bungero_column column = bungero_open(13).column;
+    const bungero_line line = line_of(1, 1, 2000, 1600);
+    expect_pasted(&column, &line, 1, BUNGERO_CODE, 0);
+    expect_pasted(&column, NULL, 0, BUNGERO_CODE, 0);
     expect_refused(&column, line_of(1, 1, 2000, 1600), BUNGERO_CODE);
     expect_no_floor(&column, 1);
     column = bungero_read(NULL, 0).column;
@@ -326,7 +379,12 @@ static void try_flags(void)
 int main(void)
 {
     expect("the layout", bungero_layout_1(), 1);
+    for (uint64_t code = 0; code <= 14; code++) {
+        try_open_member(code);
+    }
+    try_open_member(wide_one);
     try_column();
+    try_paste();
     try_unopened();
     try_list();
     try_reduced_load();

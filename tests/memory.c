@@ -1,6 +1,6 @@
 /* Tries what bungero.h says of memory. Each call runs on a painted stack of its own, with inputs that take it all the way, and
-   the paint that is gone is at most what the header says. A line is entered while the places before the count may only be
-   read: a write to one of them would be a fault. And a column goes on where an entering was cut off before its count. */
+   the paint that is gone is at most what the header says. Lines are entered and pasted while the places before the count may
+   only be read: a write to one of them would be a fault. And a column goes on where either was cut off before its count. */
 #include "bungero.h"
 
 #include <stdio.h>
@@ -26,10 +26,12 @@ static volatile uint64_t kept;
 
 static void call_nothing(void) { kept = 0; }
 static void call_open(void) { opened = bungero_open(1); }
+static void call_open_member(void) { kept = bungero_open_member(1).number; }
 static void call_read(void) { reading = bungero_read(text, length); }
 static void call_report(void) { kept = bungero_report(text, length, out).number; }
 static void call_figure_of(void) { kept = bungero_figure_of(1, lines, BUNGERO_LINES, 64).figure; }
 static void call_enter(void) { kept = bungero_column_enter(&opened.column, lines[0]); }
+static void call_paste(void) { kept = bungero_column_paste(&opened.column, lines, BUNGERO_LINES).number; }
 static void call_ask(void) { kept = bungero_column_ask(&reading.column, 64).figure; }
 static void call_reduced_load(void) { kept = bungero_reduced_load(4999, 1, 2, 9999).reduced; }
 static void call_check(void) { kept = bungero_check(effects).number; }
@@ -85,7 +87,14 @@ static void expect(const char *what, int holds)
     }
 }
 
-/* Enters the lines one by one, the held ones on a page that may only be read meanwhile and the free places on the next. */
+/* Pastes the lines from an index on. */
+static bungero_pasted paste_from(uint64_t *held, bungero_column column, unsigned first)
+{
+    return bungero_paste(held, column.member, column.count, (const uint64_t *)(lines + first), 4 * (BUNGERO_LINES - first));
+}
+
+/* Enters the lines one by one, the held ones on a page that may only be read meanwhile and the free places on the next; and
+   pastes so all that are left, in place of each. */
 static void try_entering(void)
 {
     uint8_t *pages = (uint8_t *)mmap(NULL, 2 * PAGE, PROT_READ | PROT_WRITE, MAP_PRIVATE | MAP_ANONYMOUS, -1, 0);
@@ -98,9 +107,14 @@ static void try_entering(void)
         expect("a page is protected", mprotect(pages, PAGE, PROT_READ) == 0);
         bungero_entered entered = bungero_enter(held, column.member, column.count, line.floor, line.use_class,
                                                 line.load, line.area);
+        uint64_t place = held[count];
+        held[count] = column.held[count];
+        bungero_pasted pasted = paste_from(held, column, count);
         expect("a page is given back", mprotect(pages, PAGE, PROT_READ | PROT_WRITE) == 0);
         expect("the line is accepted", entered.number == BUNGERO_ACCEPTED && entered.count == count + 1);
-        memcpy(column.held, held, sizeof column.held);
+        expect("the lines are pasted", pasted.number == BUNGERO_ACCEPTED && pasted.count == BUNGERO_LINES);
+        expect("entered and pasted alike", held[count] == place);
+        column.held[count] = place;
         column.count = entered.count;
     }
     uint64_t figure = bungero_figure_of(1, lines, BUNGERO_LINES, 64).figure;
@@ -118,7 +132,8 @@ static void expect_alike(const bungero_column *one, const bungero_column *other)
     }
 }
 
-/* Enters each line as if it were cut off, its count not stored, and goes on: with asking, and with the next line. */
+/* Enters each line, and pastes all that are left, as if it were cut off, its count not stored, and goes on: with asking, and
+   with the next line. */
 static void try_cut_off(void)
 {
     bungero_column column = bungero_open(1).column;
@@ -127,6 +142,8 @@ static void try_cut_off(void)
         bungero_line line = lines[count], other = {64, 3, 50000, 200000};
         bungero_enter(cut.held, cut.member, cut.count, other.floor, other.use_class, other.load, other.area);
         expect("a place is written", cut.held[count] != column.held[count]);
+        expect_alike(&cut, &column);
+        expect("a place is pasted to", paste_from(cut.held, cut, count).kept == BUNGERO_LINES - count);
         expect_alike(&cut, &column);
         expect("both take the line", bungero_column_enter(&cut, line) == bungero_column_enter(&column, line));
         expect_alike(&cut, &column);
@@ -139,16 +156,19 @@ int main(void)
     try_entering();
     try_cut_off();
     expect_within("bungero_open", call_open, sizeof(bungero_opened), 3072);
+    expect_within("bungero_open_member", call_open_member, sizeof(bungero_opened_member), 512);
     expect_within("bungero_read", call_read, sizeof(bungero_reading), 8192);
     expect("the sheet is read", reading.number == BUNGERO_ACCEPTED);
     expect_within("bungero_report", call_report, sizeof(bungero_reported), 12288);
     expect_within("bungero_figure_of", call_figure_of, sizeof(bungero_listed), 3072);
     expect_within("bungero_enter", call_enter, sizeof(bungero_entered), 512);
+    expect_within("bungero_paste", call_paste, sizeof(bungero_pasted), 512);
+    expect("the column is full", opened.column.count == BUNGERO_LINES);
     expect_within("bungero_ask", call_ask, sizeof(bungero_figure), 512);
     expect_within("bungero_reduced_load", call_reduced_load, sizeof(bungero_reduced), 512);
     expect_within("bungero_check", call_check, sizeof(bungero_effects) + sizeof(bungero_checked), 512);
     expect_within("bungero_combine", call_combine, sizeof(bungero_effects) + sizeof(bungero_combined), 512);
-    printf("no call takes more of the stack than the header says, entering writes no place before the count, and a column goes "
-           "on where entering was cut off\n");
+    printf("no call takes more of the stack than the header says, entering and pasting write no place before the count, and a "
+           "column goes on where they were cut off\n");
     return 0;
 }

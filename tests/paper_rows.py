@@ -14,6 +14,7 @@ from reckoning import proved
 FIGURES = "crates/reduction/specs/tables/Figures.antt"
 ASKED = "crates/figure/specs/tables/Examples.antt"
 EXAMPLES = "crates/error_bound/specs/tables/Examples.antt"  # may use the lists that ASKED defines
+PASTES = "crates/column/specs/tables/Pasting.antt"
 
 
 def read(root, place):
@@ -39,13 +40,16 @@ def compare(root):
     said += complaints(root, ASKED, proved.complaints_of_examples)
     for look in proved.complaints_of_examples, proved.complaints_of_pins, proved.complaints_of_refusing:
         said += complaints(root, EXAMPLES, lambda text, look=look: look(text, lists))
+    said += complaints(root, PASTES, proved.complaints_of_pastes)
     for each in said:
         print(each)
     if said:
         return 1
     rows, asked = len(proved.rows_of(read(root, FIGURES))), len(proved.examples_of(lists))
     examples = len(proved.examples_of(read(root, EXAMPLES), lists))
-    print(f"{rows} proved rows of figures are the paper's with P; {asked} and {examples} proved examples are as reckoned")
+    pastes = len(proved.pastes_of(read(root, PASTES)))
+    told = f"{asked} and {examples} proved examples and {pastes} pastes are as reckoned"
+    print(f"{rows} proved rows of figures are the paper's with P; {told}")
     return 0
 
 

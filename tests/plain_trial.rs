@@ -1,5 +1,5 @@
 // Tries the plain Rust, before the library is put beside it: by what the paper prints, and by every stored answer of the
-// second reckoning in Python. `plain_trial LISTS` takes the file that make_lists.py prints.
+// second reckoning in Python. `plain_trial LISTS PASTES` takes the files that make_lists.py and make_pastes.py print.
 mod paper;
 #[path = "../plain/mod.rs"]
 mod plain;
@@ -8,6 +8,7 @@ mod random;
 mod stored_columns;
 mod stored_effects;
 mod stored_lists;
+mod stored_pastes;
 mod stored_sheets;
 mod texts;
 
@@ -20,6 +21,7 @@ use plain::Refusal;
 use random::Random;
 use stored_effects::PLAIN;
 use stored_lists::plain_answer;
+use stored_pastes::Answer as Pasted;
 use texts::{longest_report, random_text};
 
 // The paper's reduced loads, its column with a heavy load above, its sample, and the longest report.
@@ -65,6 +67,17 @@ fn try_refused_lists() {
     assert_eq!(plain_answer(1, &[], 1), Err([7, 0]));
 }
 
+// What pasting lines gives where a column holds some, all of them good.
+fn pasted(code: u64, held: &[Entry], lines: &[Entry]) -> Pasted {
+    let mut column = Column::open(code).expect("a good code");
+    column.paste(held).expect("good lines");
+    let refused = column.paste(lines).err();
+    let (number, kept) = refused.map_or((0, lines.len()), |at| (at.refusal.number(), at.place as usize - 1));
+    let last = column.entries().last().map(|line| column.ask(line.floor).expect("a line has this floor"));
+    let lowest = last.map(|working| [working.floors, working.influence, working.figure]);
+    Pasted { number, kept, count: column.entries().count(), lowest }
+}
+
 // A random text that is read is the same text when it is written again; of one that is refused, the part is line K.
 fn try_text(text: &[u8]) {
     match read(text) {
@@ -85,6 +98,7 @@ fn try_text(text: &[u8]) {
 
 fn main() {
     let lists = std::env::args().nth(1).expect("the file of the second reckoning's lists");
+    let pastes = std::env::args().nth(2).expect("the file of the second reckoning's pastes");
     try_paper();
     try_rows();
     try_refused_lists();
@@ -93,10 +107,12 @@ fn main() {
     let [doubles, combinations, of_newtons] = PLAIN.try_stored();
     let sheets = stored_sheets::try_stored();
     let listed = stored_lists::try_stored(&lists, plain_answer);
+    let pasted = stored_pastes::try_stored(&pastes, pasted);
     let kinds = stored_columns::KINDS.iter().zip(questions).map(|(kind, count)| format!("{count} {kind}"));
     println!(
         "the plain Rust keeps to the paper and to every stored answer in Python: {}, {doubles} doubles, {combinations} \
-         combinations, {of_newtons} of whole newtons, {sheets} sheets, {listed} lists",
+         combinations, {of_newtons} of whole newtons, {sheets} sheets, {listed} lists, {pasted} \
+         pastes",
         kinds.collect::<Vec<_>>().join(", ")
     );
 }

@@ -21,6 +21,7 @@ from reckoning.proved import (
     Unreadable,
     complaints_of_examples,
     complaints_of_figures,
+    complaints_of_pastes,
     complaints_of_pins,
     complaints_of_refusing,
     examples_of,
@@ -325,6 +326,31 @@ class RefusingRows(unittest.TestCase):
         self.assertRaises(Unreadable, self.said, "1 few 1 4")
 
 
+# ---- Pastes ---------------------------------------------------------------
+
+
+class Pastes(unittest.TestCase):
+    """The proved pastes."""
+
+    LISTS = "above =\n    1 ∷ 1 ∷ 2000 ∷ 1600 ∷ []\nwide =\n    1 ∷ 1 ∷ 2000 ∷ 200001 ∷ []\n"
+    TEXT = LISTS + "examples =\n    example [] (above ++ (wide ++ above)) 6 1 above ∷ []\n"
+
+    def test_right(self):
+        """A row that is as reckoned, lists joined in brackets."""
+        self.assertEqual(complaints_of_pastes(self.TEXT), [])
+
+    def test_wrong(self):
+        """Another number, another count of kept lines, other lines then, and other lines held or pasted."""
+        for was, now in (("6 1", "5 1"), ("6 1", "6 2"), ("1 above", "1 []"), ("[] (", "above ("), ("wide ++ ", "")):
+            self.assertEqual(len(complaints_of_pastes(self.TEXT.replace(was, now))), 1, now)
+
+    def test_unreadable(self):
+        """A row of another form, and a list that is not there."""
+        for was, now in (("6 1", "6"), ("example [] ", "example "), ("6 1 above", "6 1 below")):
+            with self.assertRaises(Unreadable):
+                complaints_of_pastes(self.TEXT.replace(was, now))
+
+
 # ---- The script -----------------------------------------------------------
 
 
@@ -335,12 +361,12 @@ class Comparing(unittest.TestCase):
         "refusing-examples =\n    refusing 13 refused 0 0 0 ∷ []\n"
     )
 
-    def compared(self, figures, asked, examples):
-        """The exit status and the printed lines for a repository with these three files, None for no file."""
+    def compared(self, figures, asked, examples, pastes=Pastes.TEXT.encode()):
+        """The exit status and the printed lines for a repository with these four files, None for no file."""
         with TemporaryDirectory() as folder:
             root = Path(folder)
-            places = paper_rows.FIGURES, paper_rows.ASKED, paper_rows.EXAMPLES
-            for place, text in zip(places, (figures, asked, examples)):
+            places = paper_rows.FIGURES, paper_rows.ASKED, paper_rows.EXAMPLES, paper_rows.PASTES
+            for place, text in zip(places, (figures, asked, examples, pastes)):
                 (root / place).parent.mkdir(parents=True)
                 if text is not None:
                     (root / place).write_bytes(text)
@@ -356,7 +382,7 @@ class Comparing(unittest.TestCase):
         status, printed = self.compared(figures, examples, examples)
         self.assertEqual((status, len(printed)), (0, 1))
         self.assertIn("13 proved rows of figures", printed[0])
-        self.assertIn("12 and 12 proved examples", printed[0])
+        self.assertIn("12 and 12 proved examples and 1 pastes", printed[0])
         changed = figures.replace(b"(at 6400)", b"(at 6401)"), examples.replace(b" 2628800", b" 2628801")
         for files, places in (
             ((changed[0], examples, examples), [paper_rows.FIGURES] * 2),
@@ -369,6 +395,8 @@ class Comparing(unittest.TestCase):
             ((None, examples, examples), [paper_rows.FIGURES]),
             ((figures, examples, None), [paper_rows.EXAMPLES] * 3),
             ((figures, None, examples), [paper_rows.ASKED]),
+            ((figures, examples, examples, Pastes.TEXT.replace("6 1", "6 0").encode()), [paper_rows.PASTES]),
+            ((figures, examples, examples, None), [paper_rows.PASTES]),
         ):
             status, printed = self.compared(*files)
             self.assertEqual(status, 1)

@@ -180,6 +180,12 @@ class Closure(Made):
         wanted = {"told": "The sheet", "twice": "", "_⊕_": "", "Sort": "Wrong turns", "asks": None}
         self.assertEqual(places, {**wanted, "openly": "Member, line, floor", "handed": "Buyer's note"})
 
+    def test_requests(self):
+        """A place in a request of paper 02."""
+        text = TOLD.replace("-- 01, Buyer's note: handed on", "-- 02, CR 1: handed on")
+        found = definitions.all_definitions(definitions.read_all(self.repository({"crates/low/specs/Told.antt": text})))
+        self.assertIn(("handed", "CR 1"), [(each.name, closure.place_of(each)) for each in found])
+
 
 class Faults(Made):
     """Each fault fails the check, and is said in one line that names it."""
@@ -208,7 +214,7 @@ class Faults(Made):
         status, printed = self.look(root, True)
         self.assertEqual((status, len(printed)), (0, 1))
         self.assertTrue(printed[0].startswith("what must be believed: 15 lines, 6 definitions reached"), printed)
-        points = "12 points of the paper, 10 said by definitions, theorems or code, 1 tried, 1 by none; 1 of our own"
+        points = "13 points of the papers, 11 said by definitions, theorems or code, 1 tried, 1 by none; 1 of our own"
         self.assertTrue(printed[0].endswith(points), printed)
 
     def test_private_reached(self):
@@ -251,7 +257,9 @@ class Faults(Made):
     def test_unplaced(self):
         """A believed definition without a place or a comment, with a section that there is not, or a place and no words."""
         place = "-- 01, Member, line, floor"
-        for comment in ("-- told openly\n", "-- 01, Some lines: told openly\n", f"{place}:\n", f"{place} told\n", ""):
+        requests = ("-- 02, CR 99: told openly\n", "-- 02, CR 1:\n", "-- 02, The sheet: told openly\n")
+        others = ("-- told openly\n", "-- 01, Some lines: told openly\n", f"{place}:\n", f"{place} told\n", "")
+        for comment in (*requests, *others):
             text = TOLD.replace(f"{place}: told openly\n", comment)
             wrong = "`openly` is reached by low::open::ask_open, and its comment begins"
             self.said([wrong], "crates/low/specs/Told.antt", text)
@@ -274,9 +282,10 @@ class Faults(Made):
     def test_stored_list(self):
         """A list that is not as the files are, one whose marks are gone, and more lines than there may be."""
         self.said(["do not stand there once each"], book.BOOK, book_text().replace(book.END, ""))
-        many = "".join(f"\n-- 01, The sheet: {n}\nabbrev pub told{n} : ℕ\ntold{n} = told{n + 1}\n" for n in range(350))
+        half = book.MOST_LINES // 2  # each has two lines
+        many = "".join(f"\n-- 01, The sheet: {n}\nabbrev pub told{n} : ℕ\ntold{n} = told{n + 1}\n" for n in range(half))
         said = self.complained("crates/low/specs/Told.antt", TOLD.replace("n + twice n", "n + twice told0") + many)[1]
-        self.assertIn("715 lines must be believed, more than 700", said)
+        self.assertIn(f"{2 * half + 15} lines must be believed, more than {book.MOST_LINES}", said)
         root = self.repository()
         self.look(root, False)
         told = root / "crates/low/specs/Told.antt"
@@ -309,7 +318,7 @@ class Faults(Made):
     def test_sections(self):
         """A section that is missing, in another order, or without a point."""
         exchanged = (book.ORDER[1], book.ORDER[0], *book.ORDER[2:])
-        self.said(["its sections are not the paper's"], book.BOOK, book_text(order=exchanged))
+        self.said(["its sections are not the papers'"], book.BOOK, book_text(order=exchanged))
         self.said(["no point under Figures"], book.BOOK, book_text({"Figures to check against": ""}))
 
 

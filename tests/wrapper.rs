@@ -1,5 +1,5 @@
-// Tries the safe calls for Rust: the figures that the paper prints, every refusal by its name, sheets read and refused,
-// and reduced loads beside the plain Rust, random ones and those where the share changes.
+// Tries the safe calls for Rust: the figures that the paper prints, every refusal by its name, a list pasted, sheets
+// read and refused, and reduced loads beside the plain Rust, random ones and those where the share changes.
 mod beside;
 #[path = "../bindings/bungero.rs"]
 mod bungero;
@@ -13,7 +13,7 @@ mod random;
 use bungero::refusal::*;
 use bungero::{check, combine, figure_of, raw, read, reduced_load, report, report_into, LINES, REPORT_ROOM};
 use bungero::{Column, Effects, GoverningRow, Line, Newtons, Sheet, SheetEffects, Working};
-use bungero::{Refused, RefusedEffect, RefusedList, RefusedSheet};
+use bungero::{Refused, RefusedEffect, RefusedList, RefusedPaste, RefusedSheet};
 use paper::{SAMPLE, SAMPLE_REPORT};
 use random::Random;
 
@@ -147,6 +147,30 @@ fn try_effects() {
     }
 }
 
+// Forty lines pasted at once are the column of forty entries; a refused one keeps those before it, and no more.
+fn try_pasted() {
+    let lines: Vec<Line> = (0..40).map(|i| line(1 + i / 4, 1 + i % 3, 2_000 + i, 900 + i)).collect();
+    let mut entered = Column::open(1).unwrap();
+    for refused_at in 0..=lines.len() {
+        let mut list = lines.clone();
+        if let Some(bad) = list.get_mut(refused_at) {
+            bad.use_class = 4;
+        }
+        let mut column = Column::open(1).unwrap();
+        let wanted = RefusedPaste { number: CLASS, kept: refused_at };
+        assert_eq!(column.paste(&list), if refused_at < 40 { Err(wanted) } else { Ok(()) });
+        assert!(column == entered && column.count() == refused_at, "not the lines before the refused one");
+        if refused_at < 40 {
+            entered.enter(lines[refused_at]).unwrap();
+        }
+    }
+    let before = entered.clone();
+    assert_eq!(entered.paste(&[]), Ok(()));
+    assert_eq!(entered.paste(&lines), Err(RefusedPaste { number: FLOOR, kept: 0 }));
+    assert!(entered == before, "a refused first line, or no line, changed the column");
+    assert_eq!(RefusedPaste { number: CLASS, kept: 12 }.to_string(), "refused=4 kept=12");
+}
+
 // The numbers of opening, entering and asking; a refused line leaves the column as before.
 fn try_column_refusals() {
     for code in [0, 13, 256 + 1, (1 << 32) + 1, u64::MAX] {
@@ -236,6 +260,7 @@ fn main() {
     try_printed_loads();
     try_effects();
     try_column_refusals();
+    try_pasted();
     try_display();
     assert_eq!(unsafe { raw::bungero_layout_1() }, 1);
     println!("the safe calls give the paper's figures and refusals");

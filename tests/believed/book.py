@@ -4,17 +4,17 @@ import re
 import textwrap
 from dataclasses import dataclass
 
-from .closure import SECTIONS, place_of, words
+from .closure import REQUESTS, SECTIONS, place_of, words
 
 BOOK = "docs/STATEMENTS.md"
 BEGIN, END = "<!-- believed -->\n", "<!-- end of believed -->\n"
 HEAD = "| point | said by |"
 OURS = "Here: "  # how a point begins that is not the paper's
-# The paper's sections in its order, after what stands before the first; its note and its forms at the end.
-ORDER = ("The work", *SECTIONS[:7], SECTIONS[8], SECTIONS[7])
+# Paper 01's sections in its order, after what stands before the first; its note and its forms at the end. Then the requests.
+ORDER = ("The work", *SECTIONS[:7], SECTIONS[8], SECTIONS[7], *REQUESTS.values())
 GROUP = re.compile(r"((?:`[^`]+`(?:, | and ))*`[^`]+`) \(`([^`]+)`\)")
 KEYWORDS = r"(?:(?:unfoldable|abbrev|pub|data|record|module) +)*"
-MOST_LINES = 700  # what a reviewer can hold against the paper in an afternoon; whoever raises it says why in DECISIONS
+MOST_LINES = 720  # what a reviewer can hold against the paper in an afternoon; whoever raises it says why in DECISIONS
 
 
 @dataclass
@@ -75,7 +75,7 @@ def complaints(root, text, definitions, by):
     said = [f"{BOOK}, {each.section}, '{each.text}': {wrong}" for each in found for wrong in wrong_cell(root, each)]
     titles = [line[3:] for line in text.splitlines() if line.startswith("## ")]
     if tuple(titles[: len(ORDER)]) != ORDER:
-        said.append(f"{BOOK}: its sections are not the paper's, in this order: {'; '.join(ORDER)}")
+        said.append(f"{BOOK}: its sections are not the papers', in this order: {'; '.join(ORDER)}")
     said += [f"{BOOK}: no point under {title}" for title in ORDER if not any(each.section == title for each in found)]
     named = {(file, name) for each in found for names, file in each.groups() for name in names}
     for each in definitions:
@@ -148,5 +148,5 @@ def summary(definitions, contracts, by, text):
     by_these = f"{len(found) - ours - none - tried} said by definitions, theorems or code, {tried} tried, {none} by none"
     return (
         f"what must be believed: {lines} lines, {len(by)} definitions reached by the contracts of {len(contracts)} "
-        f"functions; {len(found) - ours} points of the paper, {by_these}; {ours} of our own"
+        f"functions; {len(found) - ours} points of the papers, {by_these}; {ours} of our own"
     )

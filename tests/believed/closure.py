@@ -17,6 +17,9 @@ SECTIONS = (
     "Buyer's note",
 )
 PLACE = re.compile(r"-- 01, (%s)(?: and (?:%s))*: \S" % (("|".join(map(re.escape, SECTIONS)),) * 2))
+# The requests of paper 02 that have landed, by how places name them, with their titles there.
+REQUESTS = {"CR 1": "CR 1. A whole floor pasted in"}
+REQUEST = re.compile(r"-- 02, (%s): \S" % "|".join(map(re.escape, REQUESTS)))
 UNPLACED = "-- No part of the paper: "
 
 
@@ -70,11 +73,12 @@ def reached(definitions, contracts):
 
 
 def place_of(definition):
-    """The section that a definition's comment begins with, "" where it is marked as no part of the paper, else none."""
+    """The section or request that a definition's comment begins with, "" where it is marked as no part of the papers, else
+    none."""
     first = definition.comment[0] if definition.comment else ""
     if first.startswith(UNPLACED):
         return ""
-    found = PLACE.match(first)
+    found = PLACE.match(first) or REQUEST.match(first)
     return found[1] if found else None
 
 

@@ -1,4 +1,4 @@
-"""Holds the proved tables against the paper and the reckoning: rows of figures, and examples of columns.
+"""Holds the proved tables against the paper and the reckoning: rows of figures, examples of columns, and pastes.
 
 A table is read out of the text of its definition alone. The text must have the form that is looked for to the last
 sign; what has another form is not passed over but said to be unreadable.
@@ -6,16 +6,19 @@ sign; what has another form is not passed over but said to be unreadable.
 
 import re
 from collections import Counter
+from dataclasses import astuple
 
 from reckoning.column import ask_list, column_of, require_asked
 from reckoning.combination import agreed
 from reckoning.lists import at_floor
 from reckoning.paper import INTERIOR, PAPER_ROWS, SHEET
 from reckoning.passed import Passed, passed_over
+from reckoning.pastes import pasted
 from reckoning.reduction import TABLE_4_2, factor
 
 JOINED_BY, LIST_END = "\N{PROPORTION}", "[]"  # the sign is four dots
 NUMBER = "[0-9]+"
+LISTS = r"(?:\[\]|\w+|\([\w +()]+\))"  # no list, one by its name, or several joined by ++
 
 
 class Unreadable(Exception):
@@ -202,3 +205,44 @@ def complaints_of_refusing(text, lists=""):
     rows = refusing_of(text, lists)
     wrong = [(row, passed_over(*row[:2])) for row in rows if row[2] != passed_over(*row[:2])]
     return [f"refusing {row}: reckoned {right}" for row, right in wrong]
+
+
+# ---- Pastes ----------------------------------------------------------------
+
+
+def parts_of(item):
+    """The parts of a row, which blanks outside brackets part."""
+    parts, depth = [""], 0
+    for sign in item:
+        depth += {"(": 1, ")": -1}.get(sign, 0)
+        if sign == " " and depth == 0:
+            parts.append("")
+        else:
+            parts[-1] += sign
+    return parts
+
+
+def lines_of(text, part):
+    """The lines of `[]`, of one list, or of lists joined by `++`, in whatever brackets."""
+    numbers = [number for name in re.findall(r"\w+", part) for number in numbers_of(text, "", name)]
+    return tuple(tuple(numbers[at : at + 4]) for at in range(0, len(numbers), 4))
+
+
+def pastes_of(text):
+    """The rows of the definition `examples` of pastes: lines held and pasted, number, how many kept, lines then."""
+    rows = []
+    for item in items_of(text, "examples"):
+        matched(f"example {LISTS} {LISTS} N N {LISTS}", item)
+        _word, held, lines, number, kept, then = parts_of(item)
+        rows.append((lines_of(text, held), lines_of(text, lines), int(number), int(kept), lines_of(text, then)))
+    return rows
+
+
+def complaints_of_pastes(text):
+    """The pastes, on a member of code 1, that are not what is reckoned."""
+    said = []
+    for held, lines, number, kept, then in pastes_of(text):
+        right = pasted(1, held, lines)
+        if (number, kept, then) != (right.number, right.kept, tuple(astuple(line) for line in right.lines)):
+            said.append(f"paste of {lines} on {held}: reckoned {right}")
+    return said

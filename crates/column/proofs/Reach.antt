@@ -3,7 +3,7 @@
 use mathlib.Core.Path.{_≡_, refl, sym, _∙_, ap, subst⁻¹}
 use mathlib.Core.Bool.{Bool, true, false, cond, not, _||_, false≢true}
 use mathlib.Core.List.{List, [], _∷_, _++_}
-use Prim.Native.Nat.{ℕ, _≤_, _<_}
+use Prim.Native.Nat.{ℕ, _+_, _≤_, _<_}
 use native.Mathlib.Omega.{arith}
 use lib.Dec.{leb, ltb, eqb}
 use lib.ListN.{length, length-append}
@@ -14,14 +14,16 @@ use Rattle.member.proofs.Tests.{limits}
 use Rattle.column.specs.declared.Line.{Line}
 use Rattle.column.specs.declared.Member.{Member}
 use Rattle.column.specs.declared.Column.{Column}
+use Rattle.column.specs.declared.Opened.{Opened}
 use Rattle.column.specs.declared.Outcome.{Outcome}
 use Rattle.column.specs.Accepted.{lastFloor, firstCondition, entryNumber, joined, acceptedFrom, accepted}
-use Rattle.column.specs.Column.{linesOf, columnOf, unopened, openedOf, enteredOf, after, Reached}
+use Rattle.column.specs.Column.{linesOf, columnOf, unopened, openedOf, enteredOf, after, Reached, openedOutcome}
 use Rattle.column.specs.inner.Sound.{InLimits, Sound}
 use Rattle.column.specs.theorems.InTurn.{Holdable}
 use Rattle.lists.proofs.Lists.{all-more}
 use Rattle.lists.proofs.Tests.{cases}
-use Rattle.column.proofs.Columns.{column-lines, column-size}
+use Rattle.column.proofs.Columns.{column-lines, column-size, more-lines}
+use Rattle.column.proofs.Lines.{lines-length, last-more}
 
 -- where the number is 0, a condition that has a number does not hold, and the number of the later ones is 0
 passed : (b : Bool) (n later : ℕ) → 1 ≤ n → cond b n later ≡ 0 → (b ≡ false) × (later ≡ 0)
@@ -135,14 +137,18 @@ module _ (m : Member) where
   pub opened-column : openedOf m .number ≡ 0 → openedOf m .column ≡ columnOf m []
   opened-column h = opened-cases (between 1 12 (m .code)) refl h .1
 
-  refused-cases : (b : Bool) → between 1 12 (m .code) ≡ b → 1 ≤ openedOf m .number → openedOf m .column ≡ unopened
+  refused-cases : (b : Bool) → between 1 12 (m .code) ≡ b → 1 ≤ openedOf m .number → (openedOf m .number ≡ 1) × (openedOf m .column ≡ unopened)
   unfolding openedOf
   refused-cases true e h = absurd (omega (arith, rw e at h))
-  refused-cases false e h = rw e
+  refused-cases false e h = (rw e, rw e)
 
-  -- what a refused opening gave is not the member's
+  -- a refused opening has the number 1
+  pub opened-number : 1 ≤ openedOf m .number → openedOf m .number ≡ 1
+  opened-number h = refused-cases (between 1 12 (m .code)) refl h .0
+
+  -- what it gave is not the member's
   pub opened-refused : 1 ≤ openedOf m .number → openedOf m .column ≡ unopened
-  opened-refused h = refused-cases (between 1 12 (m .code)) refl h
+  opened-refused h = refused-cases (between 1 12 (m .code)) refl h .1
 
   -- the column after a list of entries is that of the accepted lines
   pub after-opened : (es : List Line) → openedOf m .number ≡ 0 → after (openedOf m .column) es ≡ columnOf m (accepted m es)
@@ -194,17 +200,49 @@ pub reached-opened : (m : Member) → openedOf m .number ≡ 0 → Reached (open
 unfolding after
 reached-opened m e = record { member = m; entries = []; opened = e; is = refl }
 
-after-more : (c : Column) (es : List Line) (l : Line) → after c (es ++ (l ∷ [])) ≡ enteredOf (after c es) l .column
-unfolding after
-after-more c [] l = refl
-after-more c (e ∷ es) l = after-more (enteredOf c e .column) es l
+-- so where a caller has places of its own
+pub reached-empty : (m : Member) (o : Opened) → openedOutcome o ≡ openedOf m → o .number ≡ 0 → Reached (columnOf (o .member) [])
+unfolding openedOutcome
+reached-empty m o e z =
+    subst⁻¹ Reached (ap (λ (p : Outcome). p .column) e) (reached-opened m (sym (ap (λ (p : Outcome). p .number) e) ∙ z))
 
--- entering a line on a reached column gives another
-pub reached-entered : {c : Column} (l : Line) → Reached c → Reached (enteredOf c l .column)
-reached-entered {c} l r =
+-- entries after others
+pub after-append : (c : Column) (es rest : List Line) → after c (es ++ rest) ≡ after (after c es) rest
+unfolding after
+after-append c [] rest = refl
+after-append c (e ∷ es) rest = after-append (enteredOf c e .column) es rest
+
+-- entering lines on a reached column gives another
+pub reached-after : {c : Column} (es : List Line) → Reached c → Reached (after c es)
+reached-after es r =
     record {
       member = r .member;
-      entries = r .entries ++ (l ∷ []);
+      entries = r .entries ++ es;
       opened = r .opened;
-      is = ap (λ (d : Column). enteredOf d l .column) (r .is) ∙ sym (after-more (openedOf (r .member) .column) (r .entries) l);
+      is = ap (λ (d : Column). after d es) (r .is) ∙ sym (after-append (openedOf (r .member) .column) (r .entries) es);
     }
+
+pub reached-entered : {c : Column} (l : Line) → Reached c → Reached (enteredOf c l .column)
+unfolding after
+reached-entered l r = reached-after (l ∷ []) r
+
+-- a line that is accepted is one more
+pub entered-count : {c : Column} (l : Line) → Reached c → enteredOf c l .number ≡ 0 → enteredOf c l .column .count ≡ c .count + 1
+unfolding enteredOf columnOf
+entered-count {c} l r e =
+    let ok = sound r .held in
+    let size : length (linesOf c) ≡ c .count = lines-length c (omega (arith, ok .few, ok .size)) in
+    ap (λ (o : Outcome). o .column .count) (entered-accepted c l e) ∙ (length-append (linesOf c) (l ∷ []) ∙ rw size refl)
+
+-- it is the last one then
+pub entered-last : (c : Column) (l : Line) → enteredOf c l .number ≡ 0 → lastFloor (linesOf (enteredOf c l .column)) ≡ l .floor
+unfolding enteredOf entryNumber
+entered-last c l e =
+    let ok = no-condition (c .member) (length (linesOf c)) (lastFloor (linesOf c)) l e in
+    ap (λ (o : Outcome). lastFloor (linesOf (o .column))) (entered-accepted c l e)
+    ∙ (ap lastFloor (more-lines (c .member) c l (ok .1)) ∙ last-more (linesOf c) l)
+
+-- a refused one leaves the column
+pub entered-stays : (c : Column) (l : Line) → 1 ≤ enteredOf c l .number → enteredOf c l .column ≡ c
+unfolding enteredOf
+entered-stays c l h = ap (λ (o : Outcome). o .column) (entered-refused c l (entryNumber (c .member) (linesOf c) l) h refl)

@@ -1,12 +1,15 @@
-// A member, its lines and the column that holds them: opening and entering.
+// A member, its lines and the column that holds them: opening, entering and pasting.
 ghost use mathlib.Core.Path.{_≡_};
-ghost use Rattle.column.specs.Line.{unpacked, keyOf};
-ghost use Rattle.column.specs.Column.{columnFrom, memberOf, openedOutcome, openedOf, enteredOf, Reached, joinedOutcome};
+ghost use Rattle.column.specs.Line.{entriesOf, unpacked, keyOf};
+ghost use Rattle.column.specs.Accepted.{lastFloor};
+ghost use Rattle.column.specs.Column.{linesOf, columnFrom, memberOf, openedOutcome, openedOf, enteredOf, Reached, joinedOutcome};
+ghost use Rattle.column.specs.Pasted.{pastedOf, pastedOutcome};
 use member::TributaryArea;
 use member::limits;
 use refusal::Refusal;
 
 mod conditions;
+mod numbers;
 mod places;
 
 // The most lines that a member holds.
@@ -50,6 +53,7 @@ pub struct Outcome {
 }
 
 // What opening a member gives without its places: the paper's number, and the member.
+#[repr(C)]
 pub struct Opened {
     pub number: u64,
     pub member: Member,
@@ -59,6 +63,15 @@ pub struct Opened {
 #[repr(C)]
 pub struct Joined {
     pub number: u64,
+    pub count: u16,
+}
+
+// What pasting in place gives: the paper's number of the first refusal, 0 where there is none, how many lines
+// of the list were kept, and how many lines are then held.
+#[repr(C)]
+pub struct Pasted {
+    pub number: u64,
+    pub kept: u16,
     pub count: u16,
 }
 
@@ -115,14 +128,13 @@ pub fn open(code: u64) -> Outcome
     }
 }
 
-// Enters a line in place: on the column that a member, a count and its places make, which gets one line
-// more; refused, with the places as they were, where a condition for entering a line holds.
-pub fn enter_in(held: &mut Places, member: Member, count: u16, line: Line) -> Joined
+// Enters a line in place, where the floor of the last line is known.
+fn enter_below(held: &mut Places, member: Member, count: u16, last: u64, line: Line) -> Joined
     requires { ⌜ Reached (columnFrom member count (now held)) ⌝ }
+    requires { ⌜ last ≡ lastFloor (linesOf (columnFrom member count (now held))) ⌝ }
     ensures { λ r. ⌜ joinedOutcome member r (now (held .exit)) ≡ enteredOf (columnFrom member count (now (held .entry))) line ⌝ }
     ensures { λ r. ⌜ Reached (columnFrom member (r .count) (now (held .exit))) ⌝ }
 {
-    let last = places::last_floor_of(held, count);
     let number = conditions::first_condition(member, count as u64, last, line);
     if number != 0 {
         return Joined {
@@ -138,6 +150,17 @@ pub fn enter_in(held: &mut Places, member: Member, count: u16, line: Line) -> Jo
     }
 }
 
+// Enters a line in place: on the column that a member, a count and its places make, which gets one line
+// more; refused, with the places as they were, where a condition for entering a line holds.
+pub fn enter_in(held: &mut Places, member: Member, count: u16, line: Line) -> Joined
+    requires { ⌜ Reached (columnFrom member count (now held)) ⌝ }
+    ensures { λ r. ⌜ joinedOutcome member r (now (held .exit)) ≡ enteredOf (columnFrom member count (now (held .entry))) line ⌝ }
+    ensures { λ r. ⌜ Reached (columnFrom member (r .count) (now (held .exit))) ⌝ }
+{
+    let last = places::last_floor_of(held, count);
+    enter_below(held, member, count, last, line)
+}
+
 // The column with one line more; refused, with the column as it was, where a condition for entering
 // a line holds.
 pub fn enter(column: Column, line: Line) -> Outcome
@@ -151,5 +174,36 @@ pub fn enter(column: Column, line: Line) -> Outcome
     Outcome {
         number: joined.number,
         column: next,
+    }
+}
+
+// Pastes a lent list of numbers, four a line, in place: enters its lines one after another, up to and with the
+// first refused one. The lines before that one are kept, and those after it are not looked at.
+pub fn paste_in(held: &mut Places, member: Member, count: u16, lines: &[u64]) -> Pasted
+    requires { ⌜ Reached (columnFrom member count (now held)) ⌝ }
+    ensures { λ r. ⌜ pastedOutcome member r (now (held .exit)) ≡ pastedOf (columnFrom member count (now (held .entry))) (entriesOf (now (lines .entry))) ⌝ }
+    ensures { λ r. ⌜ Reached (columnFrom member (r .count) (now (held .exit))) ⌝ }
+{
+    let mut filled = count;
+    let mut last = places::last_floor_of(held, count);
+    let mut at = 0;
+    while 4 <= lines.len() - at {
+        let line = numbers::line_at(lines, at);
+        let joined = enter_below(held, member, filled, last, line);
+        if joined.number != 0 {
+            return Pasted {
+                number: joined.number,
+                kept: joined.count - count,
+                count: joined.count,
+            };
+        }
+        filled = joined.count;
+        last = line.floor;
+        at += 4;
+    }
+    Pasted {
+        number: 0,
+        kept: filled - count,
+        count: filled,
     }
 }

@@ -3,5 +3,6 @@ pub mod Bounds
 pub mod Roots
 pub mod Exact
 pub mod Claim
+pub mod Mixtures
 pub mod Counting
 pub mod Examples

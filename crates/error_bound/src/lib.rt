@@ -1,8 +1,6 @@
 // The figure after a whole list of entries, with demand 3 of the paper.
 ghost use mathlib.Core.Path.{_≡_};
-ghost use mathlib.Core.List.{_∷_};
-ghost use Prim.Native.Nat.{_+_, _≤_, _<_};
-ghost use lib.ListN.{drop};
+ghost use Prim.Native.Nat.{_≤_, _<_};
 ghost use Rattle.column.specs.Accepted.{accepted};
 ghost use Rattle.column.specs.Column.{memberOf, after, Reached};
 ghost use Rattle.figure.specs.Asked.{saidWorking};
@@ -11,9 +9,7 @@ ghost use Rattle.error_bound.specs.Entries.{askedAfter, refusalsOf, refu
 ghost use Rattle.error_bound.specs.inner.Counting.{numbersOn, notedOf};
 ghost use Rattle.error_bound.specs.Claim.{Claim};
 use column::Column;
-use column::Line;
 use figure::Asked;
-use member::TributaryArea;
 
 // The entries of a list that were refused: how many, and the number and the place, counted from 1, of the
 // first; zeros where there is none.
@@ -33,19 +29,6 @@ pub struct AfterList {
 struct Entered {
     column: Column,
     refusals: Refusals,
-}
-
-// The entry that four numbers of a list make, from an index on.
-fn entry_at(entries: &[u64], at: usize) -> Line
-    requires { do ⌜ at + 4 ≤ (← ⟦entries.len()⟧) ⌝ }
-    ensures { λ r. ⌜ entriesOf (drop at (now (entries .entry))) ≡ r ∷ entriesOf (drop (at + 4) (now (entries .entry))) ⌝ }
-{
-    Line {
-        floor: entries[at],
-        class: entries[at + 1],
-        load: entries[at + 2],
-        area: TributaryArea(entries[at + 3]),
-    }
 }
 
 // What is told of the refused entries after one more, at this place and with this number.
@@ -70,7 +53,8 @@ fn noted(refusals: Refusals, number: u64, place: u64) -> Refusals
     }
 }
 
-// The column after every entry of a list of numbers, four an entry, and the refused ones, which are passed over.
+// The column after every entry of a list of numbers, four an entry, and the refused ones, which are passed over:
+// each entry is pasted by itself, so that a refused one does not end the list.
 fn entered_all(column: Column, entries: &[u64]) -> Entered
     requires { ⌜ Reached column ⌝ }
     ensures { λ r. ⌜ (r .column ≡ after column (entriesOf (now (entries .entry)))) × Reached (r .column) × (r .refusals ≡ refusalsOf (numbersOn column (entriesOf (now (entries .entry))))) ⌝ }
@@ -84,11 +68,13 @@ fn entered_all(column: Column, entries: &[u64]) -> Entered
     let mut at = 0;
     let mut place = 0;
     while 4 <= entries.len() - at {
-        let entered = column::enter(next, entry_at(entries, at));
-        next = entered.column;
+        let member = next.member;
+        let count = next.count;
+        let pasted = column::paste_in(&mut next.held, member, count, &entries[at..at + 4]);
+        next.count = pasted.count;
         at += 4;
         place += 1;
-        refusals = noted(refusals, entered.number, place);
+        refusals = noted(refusals, pasted.number, place);
     }
     Entered {
         column: next,

@@ -1,13 +1,17 @@
-// Opening, entering and asking for programs in C and Rust; a column is lent in its parts, and changed in place.
+// Opening, entering, pasting and asking for programs in C and Rust; a column is lent in its parts, and changed in place.
 ghost use mathlib.Core.Path.{_≡_};
-ghost use Rattle.column.specs.Line.{line};
-ghost use Rattle.column.specs.Column.{columnFrom, memberOf, openedOf, enteredOf, Reached, joinedOutcome};
+ghost use mathlib.Core.List.{[]};
+ghost use Rattle.column.specs.Line.{line, entriesOf};
+ghost use Rattle.column.specs.Column.{columnOf, columnFrom, memberOf, openedOutcome, openedOf, enteredOf, Reached, joinedOutcome};
+ghost use Rattle.column.specs.Pasted.{pastedOf, pastedOutcome};
 ghost use Rattle.figure.specs.Asked.{asked};
 ghost use Rattle.exports.specs.Exported.{shownOf};
 use column::Joined;
 use column::Line;
 use column::Member;
+use column::Opened;
 use column::Outcome;
+use column::Pasted;
 use column::Places;
 use figure::Asked;
 use member::TributaryArea;
@@ -28,6 +32,14 @@ pub extern "C" fn bungero_open(code: u64) -> Outcome
     ensures { λ r. ⌜ (r ≡ openedOf (memberOf code)) × (r .number ≡ 0 → Reached (r .column)) ⌝ }
 {
     column::open(code)
+}
+
+// Opens a member for a caller that has the places of its column itself, each of them 0.
+#[no_mangle]
+pub extern "C" fn bungero_open_member(code: u64) -> Opened
+    ensures { λ r. ⌜ (openedOutcome r ≡ openedOf (memberOf code)) × (r .number ≡ 0 → Reached (columnOf (r .member) [])) ⌝ }
+{
+    column::opening(code)
 }
 
 // Enters a line on the column of this member with so many lines, whose numbers are in the lent places.
@@ -52,6 +64,22 @@ pub extern "C" fn bungero_enter(
         area: TributaryArea(area),
     };
     column::enter_in(held, member, count, line)
+}
+
+// Pastes a list of lines, four numbers a line, on such a column: enters them in order, up to and with the first
+// refused one.
+#[no_mangle]
+pub extern "C" fn bungero_paste(
+    held: &mut Places,
+    member: Member,
+    count: u16,
+    lines: &[u64],
+) -> Pasted
+    requires { ⌜ Reached (columnFrom member count (now held)) ⌝ }
+    ensures { λ r. ⌜ pastedOutcome member r (now (held .exit)) ≡ pastedOf (columnFrom member count (now (held .entry))) (entriesOf (now (lines .entry))) ⌝ }
+    ensures { λ r. ⌜ Reached (columnFrom member (r .count) (now (held .exit))) ⌝ }
+{
+    column::paste_in(held, member, count, lines)
 }
 
 // Asks at a floor of such a column.

@@ -1,13 +1,15 @@
 -- The list call gives what opening the member, entering the lines and asking give, and its figure is within the bounds.
 -- Assumes nothing.
 use mathlib.Core.Path.{_≡_, refl, sym, _∙_, ap, subst⁻¹}
-use mathlib.Core.Bool.{Bool, true, cond}
+use mathlib.Core.Bool.{Bool, true, false, cond, _||_}
 use mathlib.Core.List.{List, [], _∷_, _++_, append-nil}
 use mathlib.Core.Logic.{_⊎_, inl, inr}
 use Prim.Native.Nat.{ℕ, _+_, _≤_}
 use native.Mathlib.Omega.{arith}
+use lib.Dec.{eqb}
 use lib.ListN.{length}
 use lib.Seq.{append-snoc}
+use borrow.Author.Tests.{ne-eqb}
 use Rattle.lists.proofs.Tests.{cases}
 use Rattle.refusal.specs.Said.{Told, gives, refused, nothing}
 use Rattle.refusal.proofs.Said.{by-number, not-zero}
@@ -17,17 +19,22 @@ use Rattle.column.specs.declared.Column.{Column}
 use Rattle.figure.specs.declared.Working.{Working}
 use Rattle.figure.specs.Carried.{hasFloor}
 use Rattle.column.specs.Accepted.{entryNumber, accepted}
-use Rattle.column.specs.Column.{columnOf, openedOf, enteredOf, after}
-use Rattle.figure.specs.Asked.{workingOf, askedOf}
+use Rattle.column.specs.Column.{linesOf, columnOf, openedOf, enteredOf, after}
+use Rattle.column.specs.Pasted.{pastedOf}
+use Rattle.figure.specs.Asked.{workingOf, askedOf, asked}
 use Rattle.error_bound.specs.Claim.{Claim}
 use Rattle.column.specs.theorems.Entering.{NoneRefused, none, more, Stops}
+use Rattle.column.specs.theorems.EntryNumbers.{NeitherOneNorSeven}
+use Rattle.column.specs.theorems.Pasting.{AllKept, KeptBefore}
 use Rattle.column.proofs.Columns.{column-lines}
 use Rattle.column.specs.theorems.InTurn.{Holdable}
-use Rattle.column.proofs.Reach.{holdable-none, holdable-more, entered-accepted, opened-column}
+use Rattle.column.proofs.Reach.{holdable-none, holdable-more, entered-accepted, opened-column, opened-number}
 use Rattle.column.proofs.Entering.{every-list}
+use Rattle.column.proofs.EntryNumbers.{neither-one-nor-seven}
+use Rattle.column.proofs.Pasting.{all-kept, kept-before}
 use Rattle.error_bound.proofs.Claim.{claimed}
 use Rattle.records.specs.Listed.{atPlace, listedFrom, listedOf, Bounds}
-use Rattle.records.specs.theorems.AsEntered.{AtOpening, AtFirst, AsEntered, FigureOfAll}
+use Rattle.records.specs.theorems.AsEntered.{AtOpening, AtFirst, AsEntered, AsPasted, PlaceZero, FigureOfAll}
 
 -- an answer that refuses gives no figure
 no-figure : {P : Type 0} {t : Told ℕ Working} {n place : ℕ} {w : Working} → t ≡ refused n place → t ≡ gives w → P
@@ -127,6 +134,62 @@ at-first m lines f opened s =
 pub as-entered : AsEntered
 unfolding AsEntered columnOf
 as-entered m lines f opened h = rw (all-column m lines opened h, column-lines m lines (joined m lines opened h .holdable .lines)) (all-asked m lines opened h f)
+
+-- 02, CR 1: opening, pasting and asking
+module _ (m : Member) (lines : List Line) (f : ℕ) (opened : openedOf m .number ≡ 0) where
+  pasted-by : NoneRefused (openedOf m .column) lines ⊎ Stops (openedOf m .column) lines
+      → listedOf m lines f
+      ≡ (let p = pastedOf (openedOf m .column) lines in
+      cond {A = Told ℕ Working} (eqb (p .number) 0) (atPlace 0 (asked (p .column) f)) (refused (p .number) (p .kept + 1)))
+  unfolding AllKept KeptBefore AtFirst AsEntered
+  pasted-by (inl h) = rw (all-kept (openedOf m .column) lines h) (as-entered m lines f opened h)
+  pasted-by (inr s) = rw (kept-before (openedOf m .column) lines s, not-zero (s .refused)) (at-first m lines f opened s)
+
+pub as-pasted : AsPasted
+unfolding AsPasted
+as-pasted m lines f opened = pasted-by m lines f opened (every-list (openedOf m .column) lines)
+
+-- ---- the place of a refusal
+
+-- two refusals that are one have one number and one place
+same-refusal : {n place k at : ℕ} → _≡_ {A = Told ℕ Working} (refused n place) (refused k at) → (n ≡ k) × (place ≡ at)
+same-refusal e = (cc, cc)
+
+-- an entry's is not 0, and its number neither 1 nor 7
+place-of-entry : (c : Column) (l : Line) (before n place : ℕ) → _≡_ {A = Told ℕ Working} (refused (enteredOf c l .number) (before + 1)) (refused n place)
+    → eqb place 0 ≡ (eqb n 1 || eqb n 7)
+unfolding enteredOf NeitherOneNorSeven
+place-of-entry c l before n place e =
+    let is = same-refusal e in
+    let neither = neither-one-nor-seven (c .member) (linesOf c) l in
+    let some : eqb place 0 ≡ false = not-zero {n = place} (omega (arith, is .1)) in
+    let one : eqb n 1 ≡ false = ne-eqb n 1 (λ q. neither .0 (is .0 ∙ q)) in
+    let seven : eqb n 7 ≡ false = ne-eqb n 7 (λ q. neither .1 (is .0 ∙ q)) in
+    rw (some, one, seven)
+
+-- asking's is 0, and its number 7
+place-of-asking : (c : Column) (f n place : ℕ) → atPlace 0 (asked c f) ≡ refused n place → eqb place 0 ≡ (eqb n 1 || eqb n 7)
+unfolding atPlace askedOf
+place-of-asking c f n place =
+    cases (λ (b : Bool). atPlace 0 (cond b (gives (workingOf (c .member) (linesOf c) f)) (refused 7 nothing)) ≡ refused n place → eqb place 0 ≡ (eqb n 1 || eqb n 7))
+    (hasFloor f (linesOf c))
+    (λ _ e. no-figure e refl)
+    (λ _ e. let is = same-refusal e in rw (sym (is .0), sym (is .1)))
+
+-- 01, Member, line, floor: "the place is 0 for numbers 1 and 7"
+pub place-zero : PlaceZero
+unfolding PlaceZero AtOpening AtFirst AsEntered
+place-zero m lines f n place given =
+    by-number (openedOf m .number)
+    (λ opened. go opened (every-list (openedOf m .column) lines))
+    (λ h. let is = same-refusal (sym (at-opening m lines f h) ∙ given) in
+    let one : n ≡ 1 = sym (is .0) ∙ opened-number m h in
+    rw (one, sym (is .1)))
+  where
+    go : openedOf m .number ≡ 0 → NoneRefused (openedOf m .column) lines ⊎ Stops (openedOf m .column) lines → eqb place 0 ≡ (eqb n 1 || eqb n 7)
+    go opened (inl h) = place-of-asking (after (openedOf m .column) lines) f n place (sym (as-entered m lines f opened h) ∙ given)
+    go opened (inr s) =
+        place-of-entry (after (openedOf m .column) (s .before)) (s .line) (length (s .before)) n place (sym (at-first m lines f opened s) ∙ given)
 
 -- ---- an answer that gives a figure
 

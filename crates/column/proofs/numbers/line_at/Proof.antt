@@ -1,8 +1,8 @@
--- `error_bound::entry_at` meets its contract. Assumes nothing.
+-- `column::numbers::line_at` meets its contract. Assumes nothing.
 use Rattle.column.proofs.Entries.{entries-next}
 use borrow.Author.Needs.{needs}
-use Rattle.error_bound.proofs.entry_at.Statement.{statement}
-use Rattle.error_bound.proofs.entry_at.Tie as tie
+use Rattle.column.proofs.numbers.line_at.Statement.{statement}
+use Rattle.column.proofs.numbers.line_at.Tie as tie
 
 mul-t3 : tie.Need-mul-t3
 mul-t3 c = search needs
@@ -40,10 +40,10 @@ shared-slice-read-t17 c = search needs
 returns : tie.Need-returns
 returns c =
     let s = c .before .before .before .before in
-    entries-next (s .args .entries .now) (s .args .at) (s .pre)
+    entries-next (s .args .numbers .now) (s .args .at) (s .pre)
 
-pub entry-at-spec : {M : Type 1} → statement M
-entry-at-spec =
+pub line-at-spec : {M : Type 1} → statement M
+line-at-spec =
     tie.close
     (tie.spec
     mul-t3
