@@ -1,11 +1,12 @@
 // Checks that the proved library and the plain Rust give the same on all that is timed; the trials under tests/ put
 // them beside each other on everything else, refusals included.
-use crate::bungero::{self, Refused, RefusedList, Working};
+use crate::bungero::{self, Refused, RefusedList, RefusedWrite, Working, SHEET_ROOM};
 use crate::inputs::{Reducible, Work};
 use crate::plain::column::{figure_of, Column, Entry};
 use crate::plain::combination::combine;
 use crate::plain::reduction::reduced_load;
 use crate::plain::report::printed;
+use crate::plain::sheet::{read, write_into};
 use crate::{plain_filled, proved_filled, records};
 
 // Checks what is timed on an input, a column and a list at every floor.
@@ -16,6 +17,7 @@ pub fn check(work: &Work) {
         Work::Pasting(entries) => check_pasted(entries),
         Work::Listing(entries) => check_list(entries),
         Work::TakingDown(text) => check_sheet(text),
+        Work::Writing(text) => check_written(text),
         Work::Combining(effects) => effects.iter().for_each(check_combination),
     }
 }
@@ -61,6 +63,16 @@ fn check_sheet(text: &[u8]) {
         Err(refused) => format!("{refused}\n").into_bytes(),
     };
     assert!(proved == printed(text), "reporting {}", String::from_utf8_lossy(text));
+}
+
+// A text that is read is the same when it is written, and all of the buffer past it as it was.
+fn check_written(text: &[u8]) {
+    let (proved, plain) = (bungero::read(text).unwrap(), read(text).unwrap());
+    let doubles = plain.effects.map(|each| each as f64);
+    let (mut proved_out, mut plain_out) = ([0xa5; SHEET_ROOM], [0xa5; SHEET_ROOM]);
+    let plain = write_into(plain.code, &plain.column, &doubles, &mut plain_out).map_err(RefusedWrite::from);
+    assert_eq!((proved.write_into(&mut proved_out), plain), (Ok(text.len()), Ok(text.len())), "writing");
+    assert!(proved_out.starts_with(text) && proved_out == plain_out, "writing {}", String::from_utf8_lossy(text));
 }
 
 // The rows that govern seven effects; doubles are compared bit for bit.

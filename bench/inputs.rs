@@ -13,7 +13,7 @@ const COMMON: [i64; 6] = [3_250_000, 48_000, 36_000, 12_000, -410_000, 730_000];
 pub type Reducible = [u64; 4];
 
 // What is timed: a job and its input. Columns are those of an interior column, and are asked at their last floor, as
-// lists are.
+// lists are; what is written is the sheet of a text.
 pub enum Work {
     Reducing(Vec<Reducible>),
     Entering(Vec<Entry>),
@@ -21,6 +21,7 @@ pub enum Work {
     Listing(Vec<Entry>),
     Asking(Vec<Entry>),
     TakingDown(Vec<u8>),
+    Writing(Vec<u8>),
     Combining(Vec<[f64; 7]>),
 }
 
@@ -40,6 +41,8 @@ pub fn jobs() -> Vec<(String, Work)> {
         ("take-down, the paper's sample (2 lines)", Work::TakingDown(SAMPLE.to_vec())),
         ("take-down, office (60 lines, 20 floors)", Work::TakingDown(office())),
         ("take-down, largest (256 lines, 64 floors)", Work::TakingDown(largest())),
+        ("write, the paper's sample (2 lines)", Work::Writing(SAMPLE.to_vec())),
+        ("write, largest (256 lines, 64 floors)", Work::Writing(largest())),
         ("combine seven effects", Work::Combining(effects(&mut random, 256))),
     ];
     jobs.map(|(what, work)| (what.into(), work)).into()

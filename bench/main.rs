@@ -18,6 +18,7 @@ use plain::column::{figure_of, Column, Entry};
 use plain::combination::combine;
 use plain::reduction::reduced_load;
 use plain::report::report;
+use plain::sheet::{self, write_into, Sheet};
 use std::hint::black_box;
 use timing::{head, measure, Job};
 
@@ -127,6 +128,24 @@ fn takedown_job(what: &str, text: Vec<u8>) -> Job {
     Job::new(what, 1, proved, plain)
 }
 
+// Writing the sheet of a text, which was read before, into a lent buffer with room for any.
+fn writing_job(what: &str, text: Vec<u8>) -> Job {
+    let bungero::Sheet { column: proved_column, effects } = bungero::read(&text).unwrap();
+    let Sheet { code, column, effects: newtons } = sheet::read(&text).unwrap();
+    let mut room = [0; bungero::SHEET_ROOM];
+    let proved = move || {
+        let length = black_box(&proved_column).write_into(black_box(effects).into(), &mut room).unwrap();
+        black_box(&room[..length]);
+    };
+    let mut out = [0; bungero::SHEET_ROOM];
+    let plain = move || {
+        let doubles = black_box(newtons).map(|each| each as f64);
+        let length = write_into(code, black_box(&column), &doubles, &mut out).unwrap();
+        black_box(&out[..length]);
+    };
+    Job::new(what, 1, proved, plain)
+}
+
 // Combining seven effects.
 fn combining_job(what: &str, effects: Vec<[f64; 7]>) -> Job {
     let records: Vec<bungero::Effects> = effects.iter().map(|&doubles| doubles.into()).collect();
@@ -145,6 +164,7 @@ fn job(what: &str, work: Work) -> Job {
         Work::Listing(entries) => list_job(what, entries),
         Work::Asking(entries) => asking_job(what, entries),
         Work::TakingDown(text) => takedown_job(what, text),
+        Work::Writing(text) => writing_job(what, text),
         Work::Combining(effects) => combining_job(what, effects),
     }
 }

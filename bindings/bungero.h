@@ -4,12 +4,14 @@
    02. Every call answers every input, as the comment on it says; but a column that is handed over must be as these calls gave
    it. A `number` in an answer is 0 where no condition of the papers holds, else the number of the first one that does
    (`bungero_refusal`); all else in the answer is then 0 unless the comment says otherwise. Where something is refused, a
-   `place` counts the records of a list or the seven effects, a `line` the lines of a sheet, each from 1.
+   `place` counts the records of a list, the seven effects or the six of a sheet, a `line` the lines of a sheet, each
+   from 1.
 
-   Structs go by value. What is lent by pointer is only read, but for `out` of bungero_report and a column's places in
-   bungero_enter and bungero_paste; where something is refused it is all as before, but for the lines before the refused one,
-   which bungero_paste keeps. Lent places and lines must be aligned to 8 bytes; texts and `out` may stand anywhere. Some structs
-   have padding, whose bytes have no value: compare members, not whole structs by memcmp. bungero.rs has the same names.
+   Structs go by value. What is lent by pointer is only read, but for `out` of bungero_report and bungero_write and a
+   column's places in bungero_enter and bungero_paste; where something is refused it is all as before, but for the lines
+   before the refused one, which bungero_paste keeps. Lent places and lines must be aligned to 8 bytes; texts and `out`
+   may stand anywhere. Some structs have padding, whose bytes have no value: compare members, not whole structs by
+   memcmp. bungero.rs has the same names.
 
    No call keeps a pointer or anything else: there is no state, no heap, and no function of the C library is called but memcpy
    and memset. So calls may run in several threads at once, and in a signal handler, as long as none writes to memory that
@@ -21,6 +23,7 @@
        bungero_report                                      12,288 bytes
        bungero_read                                         8,192 bytes
        bungero_open, bungero_figure_of                      3,072 bytes
+       bungero_write                                        1,024 bytes
        all others                                             512 bytes */
 #ifndef BUNGERO_H
 #define BUNGERO_H
@@ -47,6 +50,9 @@ __attribute__((used)) static uint64_t (*const bungero_layout)(void) = bungero_la
 /* The bytes of the buffer that bungero_report writes to; no report is longer than 3,960. */
 #define BUNGERO_REPORT_ROOM 4096
 
+/* The bytes of a buffer in which bungero_write has room for every sheet; none that it writes is longer than 10,371. */
+#define BUNGERO_SHEET_ROOM 12288
+
 /* The most lines that a column holds. */
 #define BUNGERO_LINES 256
 
@@ -63,7 +69,8 @@ enum bungero_refusal {
     BUNGERO_NOT_WHOLE = 8,         /* an effect is not a whole number (NaN and infinities too) */
     BUNGERO_BEYOND_LIMIT = 9,      /* an effect is beyond +-1,000,000,000,000 */
     BUNGERO_FORM = 10,             /* a line of a sheet has not the form, is missing, or is left over */
-    BUNGERO_TOO_LONG = 11          /* a sheet is longer than 32,768 bytes */
+    BUNGERO_TOO_LONG = 11,         /* a sheet is longer than 32,768 bytes */
+    BUNGERO_NO_ROOM = 12           /* writing a sheet: the buffer is shorter than the text */
 };
 
 /* A line as a caller lends it. */
@@ -180,6 +187,11 @@ typedef struct bungero_sheet_effects {
     int64_t dead, roof, snow, rain, wind, quake;
 } bungero_sheet_effects;
 
+/* The six effects of a sheet in newtons, as doubles. */
+typedef struct bungero_sheet_doubles {
+    double dead, roof, snow, rain, wind, quake;
+} bungero_sheet_doubles;
+
 /* What bungero_read gives. */
 typedef struct bungero_reading {
     uint64_t number;
@@ -197,8 +209,16 @@ typedef struct bungero_reported {
     size_t length;                 /* how many bytes of `out` were written */
 } bungero_reported;
 
+/* What bungero_write gives. */
+typedef struct bungero_written {
+    uint64_t number;
+    uint64_t place;                /* of the refused effect, 1 (dead) to 6 (quake); 0 where number is not 8 or 9 */
+    double value;                  /* its double as it came, bit for bit; 0 where number is not 8 or 9 */
+    size_t length;                 /* how many bytes of `out` were written */
+} bungero_written;
+
 /* Opens a member: for a code of 1 to 12, number 0 and its column without lines. For any other code number 1, and in the
-   column's place one with member code 0, which bungero_column_enter, _paste and _ask refuse. */
+   column's place one with member code 0, which bungero_column_enter, _paste, _ask and _write refuse. */
 bungero_opened bungero_open(uint64_t code);
 
 /* The same without the column's 2 KB, for a binding that keeps columns itself: number 0 and the member for a code of 1 to 12,
@@ -206,19 +226,21 @@ bungero_opened bungero_open(uint64_t code);
    number 1, and a member of code 0. */
 bungero_opened_member bungero_open_member(uint64_t code);
 
-/* The calls of the library behind bungero_column_enter, _paste and _ask, which are what a program uses: a column is lent in
-   its parts, and entering and pasting write to the places where a line is accepted and give the column's new count. The parts
-   must be those of one such column; of others nothing is promised. bungero_paste takes the lines as numbers, four a line, and
-   `numbers` counts these, so it is four times the count of lines; one to three left over at the end are no line. They are only
-   read, may not overlap the places, and `lines` may be NULL where there are none. Entering and pasting write no place before
-   the count: where they are cut off, by a signal or the end of a thread, the column with its old count has the lines that it
-   had, until the caller stores the count that is given. That the calls go on from it as from the column before is tried, and
-   not proved. */
+/* The calls of the library behind bungero_column_enter, _paste, _ask and _write, which are what a program uses: a
+   column is lent in its parts, and entering and pasting write to the places where a line is accepted and give the
+   column's new count. The parts must be those of one such column; of others nothing is promised. bungero_paste takes
+   the lines as numbers, four a line, and `numbers` counts these, so it is four times the count of lines; one to three
+   left over at the end are no line. They are only read, may not overlap the places, and `lines` may be NULL where there
+   are none. Entering and pasting write no place before the count: where they are cut off, by a signal or the end of a
+   thread, the column with its old count has the lines that it had, until the caller stores the count that is given.
+   That the calls go on from it as from the column before is tried, and not proved. */
 bungero_entered bungero_enter(uint64_t held[BUNGERO_LINES], bungero_member member, uint16_t count, uint64_t floor,
                               uint64_t use_class, uint64_t load, uint64_t area);
 bungero_pasted bungero_paste(uint64_t held[BUNGERO_LINES], bungero_member member, uint16_t count, const uint64_t *lines,
                              size_t numbers);
 bungero_figure bungero_ask(const uint64_t held[BUNGERO_LINES], bungero_member member, uint16_t count, uint64_t floor);
+bungero_written bungero_write(const uint64_t held[BUNGERO_LINES], bungero_member member, uint16_t count,
+                              bungero_sheet_doubles effects, uint8_t *out, size_t room);
 
 /* Enters a line at the end of the accepted lines of a column, one as these calls gave it: number 0, and the column has the
    line. Else number 2, 3, 4, 5 or 6, the first whose condition holds in this order, and the column is as before. Number 1, and
@@ -258,6 +280,31 @@ static inline bungero_figure bungero_column_ask(const bungero_column *column, ui
     return bungero_ask(column->held, column->member, column->count, floor);
 }
 
+/* Writes the sheet of a column, one as these calls gave it, and of six effects to the start of `out`, a buffer of
+   `room` bytes: number 0, and the text is `length` bytes, at most 10,371; no zero byte is added, and the other bytes of
+   `out` stay as they were. Reading it gives the same column and effects, minus zero as 0, and a sheet that was read is
+   written back byte for byte. Else the first effect, dead to quake, that is not a whole number (8; NaN and infinities
+   too) or is whole and beyond +-1,000,000,000,000 (9): its number, which one it is and its double as it came, bit for
+   bit. Else number 12 where the buffer is shorter than the text. Number 1, before all these, where no member was
+   opened. Where something is refused no byte of `out` is written. The column is only read. `out` may not overlap it,
+   and may be NULL where `room` is 0. */
+static inline bungero_written bungero_column_write(const bungero_column *column, bungero_sheet_doubles effects,
+                                                   uint8_t *out, size_t room) {
+    if (column->member.code == 0) {
+        bungero_written refused = {BUNGERO_CODE, 0, 0, 0};
+        return refused;
+    }
+    return bungero_write(column->held, column->member, column->count, effects, out, room);
+}
+
+/* The effects of a sheet as doubles, so that what was read can be written: the same numbers for all within the limits,
+   as those of a sheet that is read are. */
+static inline bungero_sheet_doubles bungero_doubles_of(bungero_sheet_effects effects) {
+    bungero_sheet_doubles doubles = {(double)effects.dead, (double)effects.roof, (double)effects.snow,
+                                     (double)effects.rain, (double)effects.wind, (double)effects.quake};
+    return doubles;
+}
+
 /* The reduced load R of one line, where the lines carried have n = `floors` (0 is taken as 1) and X = `influence`: number 0
    and the least whole number not below share x load. Every n and X is taken. Number 4 where the class is not 1 to 3, else
    number 5 where the load is not 1 to 50,000. */
@@ -278,12 +325,13 @@ bungero_checked bungero_check(bungero_effects effects);
    the lowest row. Else what bungero_check gives as number, place and value. */
 bungero_combined bungero_combine(bungero_effects effects);
 
-/* Reads a text of `length` bytes as a sheet: number 0, its column, as bungero_open and bungero_column_enter would give it, so
-   that it can be asked and entered on, its effects, and the empty part at the end of the text. Else 1 to 6, 9, 10 or 11, the
-   line K and the part of the text that is refused: the line without its newline, the empty part at the end where a line is
-   missing, the empty part at the start for 11. Column and effects are then what was read before that line, for whoever wants
-   to show it; the column has no member where that line is the member's. The text may hold any bytes and be of any length
-   (above 32,768 it is refused with 11), and is only read; it may be NULL where `length` is 0. */
+/* Reads a text of `length` bytes as a sheet: number 0, its column, as bungero_open and bungero_column_enter would give
+   it, so that it can be asked, entered on and written, its effects, and the empty part at the end of the text. Else 1
+   to 6, 9, 10 or 11, the line K and the part of the text that is refused: the line without its newline, the empty part
+   at the end where a line is missing, the empty part at the start for 11. Column and effects are then what was read
+   before that line, for whoever wants to show it; the column has no member where that line is the member's. The text
+   may hold any bytes and be of any length (above 32,768 it is refused with 11), and is only read; it may be NULL where
+   `length` is 0. */
 bungero_reading bungero_read(const uint8_t *text, size_t length);
 
 /* What takedown prints for a sheet of `length` bytes, written to the start of `out`: number 0, and each floor's working and the
@@ -322,10 +370,15 @@ BUNGERO_AT(combined, value, 16); BUNGERO_AT(combined, governing, 24);
 BUNGERO_SIZE(sheet_effects, 48); BUNGERO_AT(sheet_effects, dead, 0); BUNGERO_AT(sheet_effects, roof, 8);
 BUNGERO_AT(sheet_effects, snow, 16); BUNGERO_AT(sheet_effects, rain, 24); BUNGERO_AT(sheet_effects, wind, 32);
 BUNGERO_AT(sheet_effects, quake, 40);
+BUNGERO_SIZE(sheet_doubles, 48); BUNGERO_AT(sheet_doubles, dead, 0); BUNGERO_AT(sheet_doubles, roof, 8);
+BUNGERO_AT(sheet_doubles, snow, 16); BUNGERO_AT(sheet_doubles, rain, 24); BUNGERO_AT(sheet_doubles, wind, 32);
+BUNGERO_AT(sheet_doubles, quake, 40);
 BUNGERO_SIZE(reading, 2136); BUNGERO_AT(reading, number, 0); BUNGERO_AT(reading, line, 8); BUNGERO_AT(reading, start, 16);
 BUNGERO_AT(reading, end, 24); BUNGERO_AT(reading, column, 32); BUNGERO_AT(reading, effects, 2088);
 BUNGERO_SIZE(reported, 24); BUNGERO_AT(reported, number, 0); BUNGERO_AT(reported, line, 8);
 BUNGERO_AT(reported, length, 16);
+BUNGERO_SIZE(written, 32); BUNGERO_AT(written, number, 0); BUNGERO_AT(written, place, 8);
+BUNGERO_AT(written, value, 16); BUNGERO_AT(written, length, 24);
 #undef BUNGERO_SIZE
 #undef BUNGERO_AT
 

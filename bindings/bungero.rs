@@ -1,17 +1,18 @@
 // Bungero for programs in Rust: safe calls over the proved static library libexports.a, and in `raw` its C interface.
 //
 // Put this file into a program with `mod bungero;` and link with `-L DIRECTORY -l static=exports` (x86-64 Linux).
-// Refusals come as `Err` with the paper's number, which `refusal` names: a `Refused`; a `RefusedList` with the place of a line
-// in a list; a `RefusedPaste` with how many lines before it are kept; a `RefusedSheet` with the line of a sheet; or a
-// `RefusedEffect` with which of the seven it is. What bungero.h says of names, memory and the stack holds here too; to the
-// stack come the copies of columns, 2 KB, and reports, 4 KB.
+// Refusals come as `Err` with the paper's number, which `refusal` names: a `Refused`; a `RefusedList` with the place of
+// a line in a list; a `RefusedPaste` with how many lines before it are kept; a `RefusedSheet` with the line of a sheet;
+// a `RefusedEffect` with which of the seven it is; or a `RefusedWrite` with which of a sheet's six, where it is one.
+// What bungero.h says of names, memory and the stack holds here too; to the stack come the copies of columns, 2 KB, and
+// reports, 4 KB.
 #![allow(dead_code, unused_imports)] // few programs use all of the calls
 
 use std::fmt;
 use std::mem::{align_of, offset_of, size_of};
 use std::ops::Deref;
 
-pub use raw::{Effects, Governing, GoverningRow, Line, Newtons, SheetEffects};
+pub use raw::{Effects, Governing, GoverningRow, Line, Newtons, SheetDoubles, SheetEffects};
 
 // The mark of the layout: a program with this file refers to it, so that it does not link with a library of other structs.
 // Whoever changes a struct or a call gives the mark the next number, as bungero.h says.
@@ -20,6 +21,9 @@ static LAYOUT: unsafe extern "C" fn() -> u64 = raw::bungero_layout_1;
 
 /// The bytes of the buffer that `report_into` writes to; no report is longer than 3,960.
 pub const REPORT_ROOM: usize = 4096;
+
+/// The bytes of a buffer in which `write_into` has room for every sheet; none that it writes is longer than 10,371.
+pub const SHEET_ROOM: usize = 12_288;
 
 /// The most lines that a column holds.
 pub const LINES: usize = 256;
@@ -50,6 +54,8 @@ pub mod refusal {
     pub const FORM: u64 = 10;
     /// A sheet is longer than 32,768 bytes.
     pub const TOO_LONG: u64 = 11;
+    /// Writing a sheet: the buffer is shorter than the text.
+    pub const NO_ROOM: u64 = 12;
 }
 
 /// The C interface as it is: structs in C's layout and the calls, with the header's names but for its `bungero_`. A number is
@@ -224,6 +230,18 @@ pub mod raw {
         pub quake: i64,
     }
 
+    /// The six effects of a sheet in newtons, as doubles: D, Lr, S, R, W, E.
+    #[repr(C)]
+    #[derive(Clone, Copy, Debug, Default, PartialEq)]
+    pub struct SheetDoubles {
+        pub dead: f64,
+        pub roof: f64,
+        pub snow: f64,
+        pub rain: f64,
+        pub wind: f64,
+        pub quake: f64,
+    }
+
     /// What reading gives: the number, the line K, the part of the text that is refused, and what was read before it.
     #[repr(C)]
     #[derive(Clone, Copy, Debug, PartialEq, Eq)]
@@ -242,6 +260,17 @@ pub mod raw {
     pub struct Reported {
         pub number: u64,
         pub line: u64,
+        pub length: usize,
+    }
+
+    /// What writing gives: the number, which of the six effects is refused and its double as it came, 0 where none is;
+    /// and how many bytes were written.
+    #[repr(C)]
+    #[derive(Clone, Copy, Debug, PartialEq)]
+    pub struct Written {
+        pub number: u64,
+        pub place: u64,
+        pub value: f64,
         pub length: usize,
     }
 
@@ -270,6 +299,17 @@ pub mod raw {
         pub fn bungero_paste(held: *mut Places, member: Member, count: u16, lines: *const u64, numbers: usize) -> Pasted;
         /// Asks at a floor of a column lent in its parts, which must be one that these calls gave.
         pub fn bungero_ask(held: *const Places, member: Member, count: u16, floor: u64) -> Figure;
+        /// Writes the sheet of a column lent in its parts, which must be one that these calls gave and is only read, to
+        /// the start of `out`, or no byte where something is refused. The `room` bytes of `out` must not overlap the
+        /// places; `out` may be null where there are none.
+        pub fn bungero_write(
+            held: *const Places,
+            member: Member,
+            count: u16,
+            effects: SheetDoubles,
+            out: *mut u8,
+            room: usize,
+        ) -> Written;
         /// The reduced load R of a line, at n floors and influence area X.
         pub fn bungero_reduced_load(load: u64, use_class: u64, floors: u64, influence: u64) -> Reduced;
         /// The figure of a lent list, `count` records that are only read; `lines` may be null where there are none.
@@ -315,8 +355,10 @@ layout! {
     Governing size 48 align 8: greatest 0, least 24;
     Combined size 72 align 8: number 0, place 8, value 16, governing 24;
     SheetEffects size 48 align 8: dead 0, roof 8, snow 16, rain 24, wind 32, quake 40;
+    SheetDoubles size 48 align 8: dead 0, roof 8, snow 16, rain 24, wind 32, quake 40;
     Reading size 2136 align 8: number 0, line 8, start 16, end 24, column 32, effects 2088;
     Reported size 24 align 8: number 0, line 8, length 16;
+    Written size 32 align 8: number 0, place 8, value 16, length 24;
 }
 
 /// What *takedown* prints for a sheet that is read.
@@ -464,6 +506,36 @@ impl fmt::Display for RefusedEffect {
 
 impl std::error::Error for RefusedEffect {}
 
+/// Why a sheet is not written: 8 or 9 for the first refused effect, with its place from 1 (dead) to 6 (quake) and its
+/// double as it came, bit for bit; or 12 where the buffer is shorter than the text, with 0 for both.
+#[derive(Clone, Copy, Debug)]
+pub struct RefusedWrite {
+    pub number: u64,
+    pub place: u64,
+    pub value: f64,
+}
+
+// Equal bit for bit, so that a NaN is equal to itself.
+impl PartialEq for RefusedWrite {
+    fn eq(&self, other: &RefusedWrite) -> bool {
+        let bits = |each: &RefusedWrite| (each.number, each.place, each.value.to_bits());
+        bits(self) == bits(other)
+    }
+}
+
+impl Eq for RefusedWrite {}
+
+impl fmt::Display for RefusedWrite {
+    fn fmt(&self, f: &mut fmt::Formatter) -> fmt::Result {
+        match self.number {
+            refusal::NO_ROOM => write!(f, "refused={}", self.number),
+            _ => write!(f, "refused={} place={} value={}", self.number, self.place, self.value),
+        }
+    }
+}
+
+impl std::error::Error for RefusedWrite {}
+
 impl From<[f64; 7]> for Effects {
     /// In the paper's order: D, L, Lr, S, R, W, E.
     fn from(doubles: [f64; 7]) -> Effects {
@@ -485,6 +557,21 @@ impl From<SheetEffects> for [i64; 6] {
     fn from(effects: SheetEffects) -> [i64; 6] {
         let SheetEffects { dead, roof, snow, rain, wind, quake } = effects;
         [dead, roof, snow, rain, wind, quake]
+    }
+}
+
+impl From<[f64; 6]> for SheetDoubles {
+    /// In the paper's order: D, Lr, S, R, W, E.
+    fn from(doubles: [f64; 6]) -> SheetDoubles {
+        let [dead, roof, snow, rain, wind, quake] = doubles;
+        SheetDoubles { dead, roof, snow, rain, wind, quake }
+    }
+}
+
+impl From<SheetEffects> for SheetDoubles {
+    /// The same numbers for all within the limits; one beyond them is beyond them as a double too.
+    fn from(effects: SheetEffects) -> SheetDoubles {
+        <[i64; 6]>::from(effects).map(|newtons| newtons as f64).into()
     }
 }
 
@@ -561,6 +648,20 @@ impl Column {
             number => Err(Refused { number }),
         }
     }
+
+    /// Writes the sheet of this column and these effects to the start of `out`; gives how many bytes, and leaves the
+    /// others as they were. Reading it gives the same column and effects, minus zero as 0. Or the first effect that is
+    /// not whole or beyond ±1,000,000,000,000, or else 12 where `out` is shorter than the text, and no byte is written.
+    pub fn write_into(&self, effects: SheetDoubles, out: &mut [u8]) -> Result<usize, RefusedWrite> {
+        let (start, room) = (out.as_mut_ptr(), out.len());
+        // SAFETY: the column is one that a call gave, changed only by these calls; its places are only read. Pointer
+        // and length are those of one slice, which is borrowed for us alone.
+        let written = unsafe { raw::bungero_write(&self.held, self.member, self.count.0, effects, start, room) };
+        match written.number {
+            0 => Ok(written.length),
+            number => Err(RefusedWrite { number, place: written.place, value: written.value }),
+        }
+    }
 }
 
 /// The reduced load R of a line in N/m², at n floors (0 counts as 1) and influence area X in dm²; or 4 for a class that is
@@ -605,11 +706,19 @@ pub fn combine(effects: Effects) -> Result<Governing, RefusedEffect> {
     }
 }
 
-/// What a sheet says: its column, which can be asked and entered on, and its six effects.
+/// What a sheet says: its column, which can be asked, entered on and written, and its six effects.
 #[derive(Clone, Debug, PartialEq, Eq)]
 pub struct Sheet {
     pub column: Column,
     pub effects: SheetEffects,
+}
+
+impl Sheet {
+    /// Writes the sheet as `Column::write_into` does, with its own effects: byte for byte the text that was read, where
+    /// nothing is changed.
+    pub fn write_into(&self, out: &mut [u8]) -> Result<usize, RefusedWrite> {
+        self.column.write_into(self.effects.into(), out)
+    }
 }
 
 // What the library reads in a text.

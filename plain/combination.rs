@@ -55,7 +55,7 @@ pub struct Governing {
     pub least: Row,
 }
 
-// The first refused effect: its place, 1 to 7, and the double as it came.
+// The first refused effect: its place among those handed over, counted from 1, and the double as it came.
 #[derive(Clone, Copy, Debug)]
 pub struct RefusedEffect {
     pub refusal: Refusal,
@@ -94,9 +94,9 @@ fn whole(effect: f64) -> Result<i64, Refusal> {
     Err(if effect.fract() == 0.0 { Refusal::EffectOutOfRange } else { Refusal::EffectNotWhole })
 }
 
-// Seven effects handed over as doubles in whole newtons, or the first refused one.
-pub fn checked(effects: &[f64; 7]) -> Result<[i64; 7], RefusedEffect> {
-    let mut newtons = [0; 7];
+// Effects handed over as doubles in whole newtons, or the first refused one; a sheet has six, a combination seven.
+pub fn checked<const COUNT: usize>(effects: &[f64; COUNT]) -> Result<[i64; COUNT], RefusedEffect> {
+    let mut newtons = [0; COUNT];
     for (place, (newtons, &double)) in (1..).zip(newtons.iter_mut().zip(effects)) {
         *newtons = whole(double).map_err(|refusal| RefusedEffect { refusal, place, double })?;
     }

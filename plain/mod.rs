@@ -20,6 +20,7 @@ pub enum Refusal {
     EffectOutOfRange = 9,
     SheetMalformed = 10,
     SheetTooLong = 11,
+    BufferTooShort = 12,
 }
 
 impl Refusal {

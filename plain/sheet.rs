@@ -1,10 +1,14 @@
 // A text sheet in plain Rust: reading it, the part that a refusal hands back, and writing it.
 use super::column::{Column, Entry};
-use super::combination::is_beyond_limit;
+use super::combination::{checked, is_beyond_limit, RefusedEffect};
 use super::{Refusal, RefusedAt};
+use std::io::{self, Write};
 use std::ops::Range;
 
 const LONGEST: usize = 32_768;
+
+// The bytes of the longest sheet that is written: 256 lines and six effects, all of as many digits as they may have.
+pub const LONGEST_WRITTEN: usize = 10_371;
 
 // What a sheet says: its member's code, its column, and its effects dead, roof, snow, rain, wind and quake in newtons.
 pub struct Sheet {
@@ -135,13 +139,62 @@ pub fn refused_part(text: &[u8], line: u64) -> Range<usize> {
     start..start + length
 }
 
-// The text of a sheet that says this, good or not: the member's code, the lines, and the effects from dead to quake.
-pub fn written(code: u64, entries: &[Entry], effects: &[i64; 6]) -> Vec<u8> {
-    let mut text = format!("member={code}\n");
+// Writes the text of a sheet that says this, good or not: the member's code, the lines, and the effects from dead to
+// quake.
+fn write_text(
+    out: &mut impl Write,
+    code: u64,
+    entries: impl Iterator<Item = Entry>,
+    effects: &[i64; 6],
+) -> io::Result<()> {
+    writeln!(out, "member={code}")?;
     for Entry { floor, class, load, area } in entries {
-        text += &format!("floor={floor} class={class} load={load} area={area}\n");
+        writeln!(out, "floor={floor} class={class} load={load} area={area}")?;
     }
     let [dead, roof, snow, rain, wind, quake] = effects;
-    text += &format!("dead={dead}\nroof={roof}\nsnow={snow}\nrain={rain}\nwind={wind}\nquake={quake}\n");
-    text.into_bytes()
+    write!(out, "dead={dead}\nroof={roof}\nsnow={snow}\nrain={rain}\nwind={wind}\nquake={quake}\n")
+}
+
+// The text of a sheet that says this, good or not.
+pub fn written(code: u64, entries: &[Entry], effects: &[i64; 6]) -> Vec<u8> {
+    let mut text = Vec::new();
+    write_text(&mut text, code, entries.iter().copied(), effects).expect("writing into memory");
+    text
+}
+
+// Why a sheet is not written: the refused effect's place, 1 to 6, and its double as it came; both 0 where the buffer is
+// too short.
+#[derive(Clone, Copy, Debug)]
+pub struct RefusedWrite {
+    pub refusal: Refusal,
+    pub place: u64,
+    pub double: f64,
+}
+
+impl From<RefusedEffect> for RefusedWrite {
+    fn from(RefusedEffect { refusal, place, double }: RefusedEffect) -> RefusedWrite {
+        RefusedWrite { refusal, place, double }
+    }
+}
+
+// Writes a sheet to the front of a buffer that has room for any, and gives its length.
+fn write_at_front(code: u64, column: &Column, newtons: &[i64; 6], out: &mut [u8]) -> usize {
+    let mut rest = &mut *out;
+    write_text(&mut rest, code, column.entries(), newtons).expect("room for any sheet");
+    let left = rest.len();
+    out.len() - left
+}
+
+// Writes the sheet of a column, whose code this is, and of six effects from dead to quake to the front of a buffer, and
+// gives its length. Bytes past it stay, and a refusal touches none: where the text might not fit, it is made elsewhere.
+pub fn write_into(code: u64, column: &Column, effects: &[f64; 6], out: &mut [u8]) -> Result<usize, RefusedWrite> {
+    let newtons = checked(effects)?;
+    if out.len() >= LONGEST_WRITTEN {
+        return Ok(write_at_front(code, column, &newtons, out));
+    }
+    let mut scratch = [0; LONGEST_WRITTEN];
+    let length = write_at_front(code, column, &newtons, &mut scratch);
+    let too_short = RefusedWrite { refusal: Refusal::BufferTooShort, place: 0, double: 0.0 };
+    out.get_mut(..length).ok_or(too_short)?.copy_from_slice(&scratch[..length]);
+    Ok(length)
 }

@@ -2,6 +2,7 @@
 // other.
 use crate::bungero;
 use crate::plain::column::{Entry, Working};
+use crate::plain::sheet::RefusedWrite;
 use crate::plain::{Refusal, RefusedAt};
 
 impl From<Entry> for bungero::Line {
@@ -27,5 +28,12 @@ impl From<Refusal> for bungero::Refused {
 impl From<RefusedAt> for bungero::RefusedList {
     fn from(refused: RefusedAt) -> bungero::RefusedList {
         bungero::RefusedList { number: refused.refusal.number(), place: refused.place }
+    }
+}
+
+impl From<RefusedWrite> for bungero::RefusedWrite {
+    fn from(refused: RefusedWrite) -> bungero::RefusedWrite {
+        let RefusedWrite { refusal, place, double } = refused;
+        bungero::RefusedWrite { number: refusal.number(), place, value: double }
     }
 }

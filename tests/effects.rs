@@ -2,6 +2,7 @@
 // for bit, each NaN too, and random effects beside the plain Rust.
 #[path = "../bindings/bungero.rs"]
 mod bungero;
+mod doubles;
 #[allow(dead_code)]
 #[path = "../plain/mod.rs"]
 mod plain;
@@ -11,10 +12,9 @@ mod stored_effects;
 
 use bungero::raw::{bungero_check, bungero_combine, GoverningRow};
 use bungero::Effects;
+use doubles::{nans, random_effects};
 use random::Random;
 use stored_effects::{Calls, Given, Rows, PLAIN};
-
-const LIMIT: u64 = 1_000_000_000_000;
 
 fn effects(bits: [u64; 7]) -> Effects {
     bits.map(f64::from_bits).into()
@@ -63,45 +63,6 @@ fn try_refused(double: u64) {
     }
 }
 
-// NaNs of both signs, quiet and signalling: each single bit set, each single bit clear, and random ones. How many there
-// were.
-fn try_nans(count: usize) -> usize {
-    let all = (1u64 << 52) - 1;
-    let random = &mut Random(1);
-    let mut payloads = vec![all];
-    payloads.extend((0..52).flat_map(|bit| [1u64 << bit, all ^ (1u64 << bit)]));
-    payloads.extend((0..count).map(|_| (random.bits() & all).max(1)));
-    let exponent = 0x7ff0_0000_0000_0000;
-    for payload in &payloads {
-        try_refused(exponent | payload);
-        try_refused(1 << 63 | exponent | payload);
-    }
-    2 * payloads.len()
-}
-
-// A random whole number of newtons within the limit, small ones as often as large ones.
-fn whole_effect(random: &mut Random) -> f64 {
-    let most = 10u64.pow(random.below(13) as u32);
-    random.between(0, most) as f64 * random.pick(&[1.0, -1.0])
-}
-
-// A random effect of any kind, as bits: whole, near the limit, beyond it, a fraction, zeros, infinities and random
-// bits.
-fn any_effect(random: &mut Random) -> u64 {
-    let sign = random.below(2) << 63;
-    match random.below(9) {
-        0 => whole_effect(random).to_bits(),
-        1 => sign | (random.between(LIMIT - 2, LIMIT + 2) as f64).to_bits(),
-        2 => sign | (random.between(LIMIT + 1, LIMIT + (1 << 50)) as f64).to_bits(),
-        3 => sign | random.between(1075, 1974) << 52 | random.bits() >> 12,
-        4 => (whole_effect(random) + random.pick(&[0.5, 0.25, -0.125])).to_bits(),
-        5 => whole_effect(random).to_bits() ^ 1,
-        6 => sign,
-        7 => sign | f64::INFINITY.to_bits(),
-        _ => random.bits(),
-    }
-}
-
 // Random sets of effects by both calls, as the plain Rust has them. How many were accepted, and at each place refused
 // with 8 and with 9.
 fn try_random(sets: u64) -> (u64, [[u64; 2]; 7]) {
@@ -109,10 +70,7 @@ fn try_random(sets: u64) -> (u64, [[u64; 2]; 7]) {
     let mut accepted = 0;
     let mut refused = [[0; 2]; 7];
     for set in 0..sets {
-        let bits: [u64; 7] = std::array::from_fn(|_| match set % 2 == 1 && random.below(7) == 0 {
-            true => any_effect(random),
-            false => whole_effect(random).to_bits(),
-        });
+        let bits: [u64; 7] = random_effects(random, set % 2 == 1);
         let checked = check(bits);
         assert_eq!(checked, (PLAIN.check)(bits), "{bits:016x?}");
         assert_eq!(combine(bits), (PLAIN.combine)(bits), "{bits:016x?}");
@@ -129,7 +87,9 @@ fn main() {
     let [doubles, combinations, whole] = Calls { check, combine, govern }.try_stored();
     println!("{combinations} stored combinations agree, and {doubles} stored doubles at each of seven places");
     println!("{whole} stored combinations of whole numbers agree, handed over as doubles");
-    println!("{} NaNs at each of seven places came back bit for bit from check and combine", try_nans(100_000));
+    let nans = nans(100_000);
+    nans.iter().copied().for_each(try_refused);
+    println!("{} NaNs at each of seven places came back bit for bit from check and combine", nans.len());
     let sets = 500_000;
     let (accepted, refused) = try_random(sets);
     println!("{sets} random sets of effects as by the plain Rust, {accepted} accepted");

@@ -318,6 +318,65 @@ static void try_read(void)
     expect_unread(too_long, sizeof too_long, BUNGERO_TOO_LONG, 0, 0, 0);
 }
 
+/* What writing a column into a buffer of so many bytes must give, and that all past the text is as it was before. */
+static void expect_written(const bungero_column *column, bungero_sheet_doubles effects, size_t room, uint64_t number,
+                           const char *written_text)
+{
+    uint8_t out[BUNGERO_SHEET_ROOM], as_before[BUNGERO_SHEET_ROOM];
+    memset(as_before, 0xa5, sizeof as_before);
+    memcpy(out, as_before, sizeof out);
+    bungero_column before = *column;
+    bungero_written written = bungero_column_write(column, effects, out, room);
+    size_t length = strlen(written_text);
+    expect("writing, number", written.number, number);
+    expect("writing, length", written.length, length);
+    expect("the text", memcmp(out, written_text, length) == 0, 1);
+    expect("the buffer past the text", memcmp(out + length, as_before, sizeof out - length) == 0, 1);
+    expect("the column's places as before", memcmp(before.held, column->held, sizeof before.held) == 0, 1);
+    if (number != BUNGERO_NOT_WHOLE && number != BUNGERO_BEYOND_LIMIT) {
+        expect("writing, no effect", written.place, 0);
+        expect_double("writing, no value", written.value, 0);
+    }
+}
+
+/* A refused effect in each of the six fields in turn, with no room and with enough: its number, place and double. */
+static void expect_unwritten(const bungero_column *column, double refused, uint64_t number)
+{
+    bungero_sheet_doubles effects;
+    double *fields[6] = {&effects.dead, &effects.roof, &effects.snow, &effects.rain, &effects.wind, &effects.quake};
+    for (int at = 0; at < 6; at++) {
+        bungero_sheet_doubles good = {1, 2, 3, 4, 5, 6};
+        effects = good;
+        *fields[at] = refused;
+        bungero_written written = bungero_column_write(column, effects, NULL, 0);
+        expect("writing, refused", written.number, number);
+        expect("writing, effect", written.place, at + 1);
+        expect_double("writing, value", written.value, refused);
+        expect("writing, no text", written.length, 0);
+        expect_written(column, effects, BUNGERO_SHEET_ROOM, number, "");
+    }
+}
+
+/* The sample written back, with room and without; with a line more and other effects; and refused effects. */
+static void try_write(void)
+{
+    size_t length = sizeof sample - 1;
+    bungero_reading reading = bungero_read((const uint8_t *)sample, length);
+    bungero_sheet_doubles effects = bungero_doubles_of(reading.effects);
+    expect_written(&reading.column, effects, length, BUNGERO_ACCEPTED, sample);
+    expect_written(&reading.column, effects, length - 1, BUNGERO_NO_ROOM, "");
+    expect_written(&reading.column, effects, BUNGERO_SHEET_ROOM, BUNGERO_ACCEPTED, sample);
+    expect("nowhere", bungero_column_write(&reading.column, effects, NULL, 0).number, BUNGERO_NO_ROOM);
+    expect("a line more", bungero_column_enter(&reading.column, line_of(64, 3, 50000, 200000)), BUNGERO_ACCEPTED);
+    bungero_sheet_doubles others = {-0.0, 1000000000000.0, -1000000000000.0, 12, -345, 6};
+    expect_written(&reading.column, others, BUNGERO_SHEET_ROOM, BUNGERO_ACCEPTED,
+                   "member=1\nfloor=1 class=1 load=2000 area=1600\nfloor=2 class=1 load=2000 area=1600\n"
+                   "floor=64 class=3 load=50000 area=200000\ndead=0\nroof=1000000000000\nsnow=-1000000000000\n"
+                   "rain=12\nwind=-345\nquake=6\n");
+    expect_unwritten(&reading.column, 0.5, BUNGERO_NOT_WHOLE);
+    expect_unwritten(&reading.column, 1000000000001.0, BUNGERO_BEYOND_LIMIT);
+}
+
 /* A buffer that the report of a text was written to, and whether all past the report is as it was before. */
 static void expect_report(const char *text, size_t length, uint64_t number, uint64_t line, const char *report)
 {
@@ -344,11 +403,13 @@ static void try_report(void)
     expect_report("member=13\n", 10, BUNGERO_CODE, 1, "");
 }
 
-/* The column of a refused opening: entering, pasting and asking refuse, and nothing is touched. */
+/* The column of a refused opening: entering, pasting, asking and writing refuse, and nothing is touched. */
 static void try_unopened(void)
 {
     bungero_column column = bungero_open(13).column;
     const bungero_line line = line_of(1, 1, 2000, 1600);
+    const bungero_sheet_doubles not_whole = {0.5, 0, 0, 0, 0, 0};
+    expect_written(&column, not_whole, BUNGERO_SHEET_ROOM, BUNGERO_CODE, "");
     expect_pasted(&column, &line, 1, BUNGERO_CODE, 0);
     expect_pasted(&column, NULL, 0, BUNGERO_CODE, 0);
     expect_refused(&column, line_of(1, 1, 2000, 1600), BUNGERO_CODE);
@@ -363,6 +424,7 @@ static void try_flags(void)
 {
     static const uint64_t bits[] = {0x7ff0000000000001, 0x7ff8000000000001, 0x7ff0000000000000, 0x3fe0000000000000,
                                     0x4271f71fb04cb000, 0x0000000000000001};
+    const bungero_column column = bungero_open(1).column;
     for (int at = 0; at < 6; at++) {
         bungero_effects effects = one_to_seven();
         memcpy(&effects.wind, &bits[at], sizeof effects.wind);
@@ -373,6 +435,13 @@ static void try_flags(void)
         expect("a raised flag", raised, at == 0 ? FE_INVALID : 0);
         expect("checking and combining alike", checked.number, combined.number);
         expect("the refused double, bit for bit", memcmp(&checked.value, &bits[at], sizeof bits[at]) == 0, 1);
+        bungero_sheet_doubles six = {1, 2, 3, 4, 5, 6};
+        memcpy(&six.wind, &bits[at], sizeof six.wind);
+        feclearexcept(FE_ALL_EXCEPT);
+        bungero_written written = bungero_column_write(&column, six, NULL, 0);
+        expect("a raised flag, writing", fetestexcept(FE_ALL_EXCEPT), at == 0 ? FE_INVALID : 0);
+        expect("checking and writing alike", checked.number, written.number);
+        expect("the unwritten double, bit for bit", memcmp(&written.value, &bits[at], sizeof bits[at]) == 0, 1);
     }
 }
 
@@ -394,6 +463,7 @@ int main(void)
     try_combine();
     try_flags();
     try_read();
+    try_write();
     try_report();
 #ifdef __cplusplus
     const char *language = "C++";

@@ -16,12 +16,14 @@
 /* What is lent stands outside the stack that is measured. */
 static uint8_t stack[ROOM] __attribute__((aligned(16)));
 static ucontext_t back, there;
-static uint8_t text[32769], out[BUNGERO_REPORT_ROOM];
+static uint8_t text[32769], out[BUNGERO_REPORT_ROOM], saved[BUNGERO_SHEET_ROOM];
 static size_t length;
 static bungero_line lines[BUNGERO_LINES];
 static bungero_opened opened;
 static bungero_reading reading;
 static bungero_effects effects = {1, 2, 3, 4, 5, 6, 7};
+static bungero_sheet_doubles doubles;
+static bungero_written written;
 static volatile uint64_t kept;
 
 static void call_nothing(void) { kept = 0; }
@@ -33,6 +35,7 @@ static void call_figure_of(void) { kept = bungero_figure_of(1, lines, BUNGERO_LI
 static void call_enter(void) { kept = bungero_column_enter(&opened.column, lines[0]); }
 static void call_paste(void) { kept = bungero_column_paste(&opened.column, lines, BUNGERO_LINES).number; }
 static void call_ask(void) { kept = bungero_column_ask(&reading.column, 64).figure; }
+static void call_write(void) { written = bungero_column_write(&reading.column, doubles, saved, sizeof saved); }
 static void call_reduced_load(void) { kept = bungero_reduced_load(4999, 1, 2, 9999).reduced; }
 static void call_check(void) { kept = bungero_check(effects).number; }
 static void call_combine(void) { kept = bungero_combine(effects).number; }
@@ -75,7 +78,8 @@ static void make_inputs(void)
         length += (size_t)sprintf((char *)text + length, "floor=%u class=%u load=%u area=%u\n", 1 + at / 4, 1 + at % 3,
                                   1 + at * 19, 1 + at * 7);
     }
-    length += (size_t)sprintf((char *)text + length, "dead=1\nroof=2\nsnow=3\nrain=4\nwind=-5\nquake=6\n");
+    length += (size_t)sprintf((char *)text + length, "dead=1\nroof=-2\nsnow=1000000000000\nrain=4\nwind=-987654321098\n"
+                                                     "quake=-1000000000000\n");
 }
 
 /* Stops where what should hold does not. */
@@ -159,6 +163,9 @@ int main(void)
     expect_within("bungero_open_member", call_open_member, sizeof(bungero_opened_member), 512);
     expect_within("bungero_read", call_read, sizeof(bungero_reading), 8192);
     expect("the sheet is read", reading.number == BUNGERO_ACCEPTED);
+    doubles = bungero_doubles_of(reading.effects);
+    expect_within("bungero_write", call_write, sizeof(bungero_sheet_doubles) + sizeof(bungero_written), 1024);
+    expect("the sheet is written back", written.length == length && memcmp(saved, text, length) == 0);
     expect_within("bungero_report", call_report, sizeof(bungero_reported), 12288);
     expect_within("bungero_figure_of", call_figure_of, sizeof(bungero_listed), 3072);
     expect_within("bungero_enter", call_enter, sizeof(bungero_entered), 512);

@@ -15,6 +15,7 @@ FIGURES = "crates/reduction/specs/tables/Figures.antt"
 ASKED = "crates/figure/specs/tables/Examples.antt"
 EXAMPLES = "crates/error_bound/specs/tables/Examples.antt"  # may use the lists that ASKED defines
 PASTES = "crates/column/specs/tables/Pasting.antt"
+WRITES = "crates/sheet_writer/specs/tables/Examples.antt"
 
 
 def read(root, place):
@@ -41,14 +42,15 @@ def compare(root):
     for look in proved.complaints_of_examples, proved.complaints_of_pins, proved.complaints_of_refusing:
         said += complaints(root, EXAMPLES, lambda text, look=look: look(text, lists))
     said += complaints(root, PASTES, proved.complaints_of_pastes)
+    said += complaints(root, WRITES, proved.complaints_of_writes)
     for each in said:
         print(each)
     if said:
         return 1
     rows, asked = len(proved.rows_of(read(root, FIGURES))), len(proved.examples_of(lists))
     examples = len(proved.examples_of(read(root, EXAMPLES), lists))
-    pastes = len(proved.pastes_of(read(root, PASTES)))
-    told = f"{asked} and {examples} proved examples and {pastes} pastes are as reckoned"
+    pastes, written = len(proved.pastes_of(read(root, PASTES))), len(proved.writes_of(read(root, WRITES)))
+    told = f"{asked} and {examples} proved examples, {pastes} pastes and {written} writes are as reckoned"
     print(f"{rows} proved rows of figures are the paper's with P; {told}")
     return 0
 

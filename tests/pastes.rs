@@ -8,6 +8,7 @@ mod bungero;
 mod plain;
 #[path = "../bench/random.rs"]
 mod random;
+#[allow(dead_code)]
 mod raw_column;
 mod stored_pastes;
 

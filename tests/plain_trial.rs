@@ -1,5 +1,6 @@
 // Tries the plain Rust, before the library is put beside it: by what the paper prints, and by every stored answer of the
-// second reckoning in Python. `plain_trial LISTS PASTES` takes the files that make_lists.py and make_pastes.py print.
+// second reckoning in Python. `plain_trial LISTS PASTES WRITES` takes the files that make_lists.py, make_pastes.py and
+// make_writes.py print.
 mod paper;
 #[path = "../plain/mod.rs"]
 mod plain;
@@ -10,18 +11,21 @@ mod stored_effects;
 mod stored_lists;
 mod stored_pastes;
 mod stored_sheets;
+mod stored_writes;
 mod texts;
 
 use plain::column::{Column, Entry, Working};
 use plain::combination::combine;
 use plain::reduction::reduced_load;
 use plain::report::printed;
-use plain::sheet::{read, refused_part};
+use plain::sheet::{read, refused_part, write_into};
 use plain::Refusal;
 use random::Random;
 use stored_effects::PLAIN;
 use stored_lists::plain_answer;
 use stored_pastes::Answer as Pasted;
+use stored_sheets::write_back;
+use stored_writes::Given as Saved;
 use texts::{longest_report, random_text};
 
 // The paper's reduced loads, its column with a heavy load above, its sample, and the longest report.
@@ -78,10 +82,23 @@ fn pasted(code: u64, held: &[Entry], lines: &[Entry]) -> Pasted {
     Pasted { number, kept, count: column.entries().count(), lowest }
 }
 
-// A random text that is read is the same text when it is written again; of one that is refused, the part is line K.
+// What writing the sheet of a member with these lines, all of them good, gives.
+fn saved(code: u64, lines: &[Entry], effects: &[f64; 6], out: &mut [u8]) -> Saved {
+    let mut column = Column::open(code).expect("a good code");
+    column.paste(lines).expect("good lines");
+    let given = write_into(code, &column, effects, out);
+    given.map_err(|refused| (refused.refusal.number(), refused.place, refused.double.to_bits()))
+}
+
+// A random text that is read is the same text when it is written again, also into a buffer that is just as long; of one
+// that is refused, the part is line K.
 fn try_text(text: &[u8]) {
     match read(text) {
-        Ok(sheet) => assert!(sheet.text() == text, "{}", String::from_utf8_lossy(text)),
+        Ok(sheet) => {
+            let mut out = vec![0; text.len()];
+            let is_whole = write_back(&sheet, &mut out) == text.len();
+            assert!(is_whole && out == text && sheet.text() == text, "{}", String::from_utf8_lossy(text));
+        }
         Err(refused) => {
             let part = refused_part(text, refused.place);
             let (above, rest) = text.split_at(part.start);
@@ -99,6 +116,7 @@ fn try_text(text: &[u8]) {
 fn main() {
     let lists = std::env::args().nth(1).expect("the file of the second reckoning's lists");
     let pastes = std::env::args().nth(2).expect("the file of the second reckoning's pastes");
+    let writes = std::env::args().nth(3).expect("the file of the second reckoning's writes");
     try_paper();
     try_rows();
     try_refused_lists();
@@ -108,11 +126,11 @@ fn main() {
     let sheets = stored_sheets::try_stored();
     let listed = stored_lists::try_stored(&lists, plain_answer);
     let pasted = stored_pastes::try_stored(&pastes, pasted);
+    let saved = stored_writes::try_stored(&writes, saved);
     let kinds = stored_columns::KINDS.iter().zip(questions).map(|(kind, count)| format!("{count} {kind}"));
     println!(
         "the plain Rust keeps to the paper and to every stored answer in Python: {}, {doubles} doubles, {combinations} \
-         combinations, {of_newtons} of whole newtons, {sheets} sheets, {listed} lists, {pasted} \
-         pastes",
+         combinations, {of_newtons} of whole newtons, {sheets} sheets, {listed} lists, {pasted} pastes, {saved} writes",
         kinds.collect::<Vec<_>>().join(", ")
     );
 }

@@ -1,10 +1,11 @@
 // A column by the raw calls, for the trials: its places lie between canaries, and every call is watched for what it
 // changes.
-use crate::bungero::{raw, Refused, Working};
+use crate::bungero::{raw, Refused, RefusedWrite, SheetDoubles, Working};
 use crate::plain::column::Entry;
 
 const CANARIES: usize = 16; // watched on either side of the places
 const CANARY: u64 = 0xa5a5_a5a5_a5a5_a5a5;
+const BESIDE: usize = 64; // bytes that are watched on either side of a buffer
 
 // A column as the raw calls have it.
 pub struct RawColumn {
@@ -17,9 +18,20 @@ impl RawColumn {
     pub fn open(code: u64) -> RawColumn {
         let opened = unsafe { raw::bungero_open(code) };
         assert_eq!((opened.number, opened.column.count), (0, 0), "opening {code}");
+        RawColumn::of(&opened.column)
+    }
+
+    // A column that opening or reading gave.
+    pub fn of(column: &raw::Column) -> RawColumn {
         let canaries = [CANARY; CANARIES];
-        let lent = [&canaries[..], &opened.column.held, &canaries].concat();
-        RawColumn { member: opened.column.member, count: 0, lent }
+        let lent = [&canaries[..], &column.held, &canaries].concat();
+        RawColumn { member: column.member, count: column.count, lent }
+    }
+
+    // Whether it is this one, with all of its places.
+    pub fn is(&self, column: &raw::Column) -> bool {
+        let places = &self.lent[CANARIES..self.lent.len() - CANARIES];
+        (self.member, self.count, places) == (column.member, column.count, &column.held)
     }
 
     // The number of an entry. A refused one changes nothing, an accepted one no canary.
@@ -76,5 +88,38 @@ impl RawColumn {
         }
         assert_eq!(working, Working { floors: 0, influence: 0, figure: 0 }, "a figure beside a refusal");
         Err(Refused { number: asked.number })
+    }
+
+    // What writing into a buffer of so many bytes gives: the text, or the refusal. It is the same over two patterns
+    // that differ in every byte, so that no byte can be written and look as before.
+    pub fn write(&self, effects: SheetDoubles, room: usize) -> Result<Vec<u8>, RefusedWrite> {
+        let [written, again] = [0, 0xff].map(|turned| self.write_over(effects, room, turned));
+        assert_eq!(written, again, "what is written depends on what was there");
+        written
+    }
+
+    // The same over a pattern. Nothing is changed but the bytes of the text, which stand between canaries; a refusal
+    // comes alone.
+    fn write_over(&self, effects: SheetDoubles, room: usize, turned: u8) -> Result<Vec<u8>, RefusedWrite> {
+        let before = self.lent.clone();
+        let start = BESIDE + room % 8;
+        let mut buffer: Vec<u8> = (0..start + room + BESIDE).map(|at| (at as u8).wrapping_mul(151) ^ turned).collect();
+        let mut expected = buffer.clone();
+        let places = self.lent[CANARIES..].as_ptr().cast::<raw::Places>();
+        let out = buffer[start..].as_mut_ptr();
+        // SAFETY: as in `enter`; the buffer has `room` bytes from there on, and more.
+        let written = unsafe { raw::bungero_write(places, self.member, self.count, effects, out, room) };
+        let raw::Written { number, place, value, length } = written;
+        assert!(self.lent == before, "writing changed the column");
+        assert!(length <= room, "a text of {length} bytes in a buffer of {room}");
+        let text = buffer[start..][..length].to_vec();
+        expected[start..][..length].copy_from_slice(&text);
+        assert!(buffer == expected, "a byte that is not the text's was written, or one for a refusal");
+        if number != 0 {
+            assert_eq!(length, 0, "a text beside a refusal");
+            return Err(RefusedWrite { number, place, value });
+        }
+        assert_eq!((place, value.to_bits()), (0, 0), "a refusal beside a text");
+        Ok(text)
     }
 }

@@ -1,7 +1,7 @@
 // Tries bungero_read and bungero_report beside the plain Rust on random sheets, good and mutated: `sheets COUNT
 // [SECONDS [SEED]]`. A text is lent between canaries or at a guard page; it must stay as it was, and so must all of the
-// buffer but the report, and all of it where the sheet is refused. The status is 3 where the time was up before all
-// were tried.
+// buffer but the report, and all of it where the sheet is refused. A sheet that is read must be the same text when
+// bungero_write writes it back. The status is 3 where the time was up before all were tried.
 #[path = "../bindings/bungero.rs"]
 mod bungero;
 #[allow(dead_code)]
@@ -12,7 +12,7 @@ mod random;
 mod reports;
 mod texts;
 
-use bungero::raw::{bungero_read, bungero_report, Reading, Reported};
+use bungero::raw::{bungero_read, bungero_report, bungero_write, Reading, Reported};
 use bungero::REPORT_ROOM;
 use random::Random;
 use reports::{Wanted, REPORT_BOUND};
@@ -76,7 +76,7 @@ impl Guarded {
 // ---- The trial --------------------------------------------------------------
 
 const TEXT_ROOM: usize = 20 * PAGE;
-const OUT_ROOM: usize = 2 * PAGE;
+const OUT_ROOM: usize = 3 * PAGE;
 const CANARIES: usize = 64; // bytes that are watched on either side of what is lent
 const SHIFTS: u64 = 32; // places of the text and of the buffer that lie between canaries
 const REFUSALS: [usize; 9] = [1, 2, 3, 4, 5, 6, 9, 10, 11]; // the numbers that a sheet may have
@@ -167,6 +167,15 @@ fn wrong(reading: &Reading, reported: Reported, out: &[u8], wanted: &Wanted) -> 
     (!alike).then(|| differing(out, reported.length, &wanted.report))
 }
 
+// Whether a sheet that was read is the same text again, in a buffer just as long, which ends at a guard page.
+fn is_written_back(reading: &Reading, text: &[u8], memory: &mut Guarded) -> bool {
+    let Reading { column, effects, .. } = reading;
+    let (out_at, room) = (OUT_ROOM - text.len(), text.len());
+    let out = memory.bytes()[out_at..].as_mut_ptr();
+    let written = unsafe { bungero_write(&column.held, column.member, column.count, (*effects).into(), out, room) };
+    written.number == 0 && written.length == room && &memory.bytes()[out_at..] == text
+}
+
 // Tries one case; gives what both have alike.
 fn try_case(seed: u64, case: u64, text_memory: &mut Guarded, out_memory: &mut Guarded) -> Reported {
     CASE.store(case, Relaxed);
@@ -197,6 +206,9 @@ fn try_case(seed: u64, case: u64, text_memory: &mut Guarded, out_memory: &mut Gu
     if text_memory.bytes()[lent] != as_lent {
         stop(seed, case, "the lent text, or a byte beside it, was changed");
     }
+    if reading.number == 0 && !is_written_back(&reading, &text, out_memory) {
+        stop(seed, case, "written back, the sheet is another text");
+    }
     reported
 }
 
@@ -226,7 +238,8 @@ impl Tally {
     fn shown(&self) -> String {
         let refused: Vec<String> = REFUSALS.map(|number| format!("{number}: {}", self.numbers[number])).into();
         let (sheets, read, longest) = (self.sheets(), self.numbers[0], self.longest);
-        format!("{sheets} sheets agree: {read} read; refused {}; longest report {longest} bytes", refused.join(", "))
+        let refused = refused.join(", ");
+        format!("{sheets} sheets agree: {read} read, written back; refused {refused}; longest report {longest} bytes")
     }
 }
 

@@ -24,6 +24,7 @@ from reckoning.proved import (
     complaints_of_pastes,
     complaints_of_pins,
     complaints_of_refusing,
+    complaints_of_writes,
     examples_of,
     paper_examples,
     reckoned,
@@ -351,6 +352,45 @@ class Pastes(unittest.TestCase):
                 complaints_of_pastes(self.TEXT.replace(was, now))
 
 
+# ---- Writes ---------------------------------------------------------------
+
+
+class Writes(unittest.TestCase):
+    """The proved writes."""
+
+    LISTS = "one =\n    1 ∷ 1 ∷ 2000 ∷ 1600 ∷ []\n"
+    PUT = "member=2|floor=1 class=1 load=2000 area=1600|dead=0|roof=-7|snow=3|rain=0|wind=0|quake=0|"
+    SIX = "(six (whole 0) (uplift 7) (halves 6) (whole 0) (uplift 0) (whole 0))"
+    TEXT = f'{LISTS}examples =\n    example 2 one {SIX} 100 (puts "{PUT}") ∷ example 2 one {SIX} 10 noRoom ∷ []\n'
+    REFUSED = "(refuses 8 4 (halves 7))"
+
+    def refused(self, told):
+        """A row whose fourth effect is a fraction, and that tells this."""
+        six = self.SIX.replace("(halves 6) (whole 0)", "(halves 6) (halves 7)")
+        return f"{self.LISTS}examples =\n    example 2 one {six} 0 {told} ∷ []\n"
+
+    def test_right(self):
+        """Rows that are as reckoned: a text, no room, and a refused effect with a buffer that is too short."""
+        self.assertEqual(complaints_of_writes(self.TEXT), [])
+        self.assertEqual(complaints_of_writes(self.refused(self.REFUSED)), [])
+
+    def test_wrong(self):
+        """Another text, effect, line, code or room; another number, place or double."""
+        for was, now in (("snow=3", "snow=4"), ("(uplift 7)", "(whole 7)"), ("2 one", "2 []"), (" 10 ", " 100 ")):
+            self.assertIn(len(complaints_of_writes(self.TEXT.replace(was, now))), (1, 2), now)
+        for now in ("noRoom", "(refuses 9 4 (halves 7))", "(refuses 8 5 (halves 7))", "(refuses 8 4 (halves 9))"):
+            self.assertEqual(len(complaints_of_writes(self.refused(now))), 1, now)
+        for double in "nan", "(inf true)", "(inf false)":
+            six = self.refused(f"(refuses 8 4 {double})").replace("(halves 7) (uplift", f"{double} (uplift")
+            self.assertEqual(complaints_of_writes(six), [], double)
+
+    def test_unreadable(self):
+        """A row of another form, a list that is not there, and a number that no double has."""
+        for was, now in (("100", ""), ("2 one", "2 two"), ("(whole 0))", ")"), ("(halves 6)", f"(halves {2**60 + 1})")):
+            with self.assertRaises(Unreadable):
+                complaints_of_writes(self.TEXT.replace(was, now))
+
+
 # ---- The script -----------------------------------------------------------
 
 
@@ -361,12 +401,12 @@ class Comparing(unittest.TestCase):
         "refusing-examples =\n    refusing 13 refused 0 0 0 ∷ []\n"
     )
 
-    def compared(self, figures, asked, examples, pastes=Pastes.TEXT.encode()):
-        """The exit status and the printed lines for a repository with these four files, None for no file."""
+    def compared(self, figures, asked, examples, pastes=Pastes.TEXT.encode(), written=Writes.TEXT.encode()):
+        """The exit status and the printed lines for a repository with these five files, None for no file."""
         with TemporaryDirectory() as folder:
             root = Path(folder)
-            places = paper_rows.FIGURES, paper_rows.ASKED, paper_rows.EXAMPLES, paper_rows.PASTES
-            for place, text in zip(places, (figures, asked, examples, pastes)):
+            places = (paper_rows.FIGURES, paper_rows.ASKED, paper_rows.EXAMPLES, paper_rows.PASTES, paper_rows.WRITES)
+            for place, text in zip(places, (figures, asked, examples, pastes, written)):
                 (root / place).parent.mkdir(parents=True)
                 if text is not None:
                     (root / place).write_bytes(text)
@@ -382,7 +422,7 @@ class Comparing(unittest.TestCase):
         status, printed = self.compared(figures, examples, examples)
         self.assertEqual((status, len(printed)), (0, 1))
         self.assertIn("13 proved rows of figures", printed[0])
-        self.assertIn("12 and 12 proved examples and 1 pastes", printed[0])
+        self.assertIn("12 and 12 proved examples, 1 pastes and 2 writes", printed[0])
         changed = figures.replace(b"(at 6400)", b"(at 6401)"), examples.replace(b" 2628800", b" 2628801")
         for files, places in (
             ((changed[0], examples, examples), [paper_rows.FIGURES] * 2),
@@ -397,6 +437,7 @@ class Comparing(unittest.TestCase):
             ((figures, None, examples), [paper_rows.ASKED]),
             ((figures, examples, examples, Pastes.TEXT.replace("6 1", "6 0").encode()), [paper_rows.PASTES]),
             ((figures, examples, examples, None), [paper_rows.PASTES]),
+            ((figures, examples, examples, Pastes.TEXT.encode(), None), [paper_rows.WRITES]),
         ):
             status, printed = self.compared(*files)
             self.assertEqual(status, 1)

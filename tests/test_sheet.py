@@ -792,7 +792,7 @@ class Texts(unittest.TestCase):
         return found
 
     def answers(self):
-        """The report, start, end and part of each answer, taken from the second text."""
+        """The report, start, end and part of each answer, taken from the second text; a sheet read is written back."""
         found, at = [], 0
         while at < len(self.stdout):
             match = self.REFUSED.match(self.stdout, at) or self.READ.match(self.stdout, at)
@@ -801,8 +801,9 @@ class Texts(unittest.TestCase):
             self.assertTrue(place, self.stdout[at : at + 80])
             start, end = int(place[1]), int(place[2])
             part = self.stdout[place.end() : place.end() + end - start]
-            at = place.end() + end - start + 1
-            self.assertEqual(self.stdout[at - 1 : at], b"\n")
+            rest = b"\n" if match.re is self.REFUSED else b"\nwritten=%d same\n" % end
+            at = place.end() + end - start + len(rest)
+            self.assertEqual(self.stdout[at - len(rest) : at], rest)
             found.append((match[0], start, end, part))
         return found
 

@@ -214,7 +214,9 @@ class Faults(Made):
         status, printed = self.look(root, True)
         self.assertEqual((status, len(printed)), (0, 1))
         self.assertTrue(printed[0].startswith("what must be believed: 15 lines, 6 definitions reached"), printed)
-        points = "13 points of the papers, 11 said by definitions, theorems or code, 1 tried, 1 by none; 1 of our own"
+        said = len(book.ORDER)
+        points = f"{said + 2} points of the papers, {said} said by definitions, theorems or code, 1 tried, 1 by none"
+        points += "; 1 of our own"
         self.assertTrue(printed[0].endswith(points), printed)
 
     def test_private_reached(self):

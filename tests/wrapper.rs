@@ -1,5 +1,5 @@
 // Tries the safe calls for Rust: the figures that the paper prints, every refusal by its name, a list pasted, sheets
-// read and refused, and reduced loads beside the plain Rust, random ones and those where the share changes.
+// read, refused and written, and reduced loads beside the plain Rust, random ones and those where the share changes.
 mod beside;
 #[path = "../bindings/bungero.rs"]
 mod bungero;
@@ -11,9 +11,10 @@ mod plain;
 mod random;
 
 use bungero::refusal::*;
-use bungero::{check, combine, figure_of, raw, read, reduced_load, report, report_into, LINES, REPORT_ROOM};
-use bungero::{Column, Effects, GoverningRow, Line, Newtons, Sheet, SheetEffects, Working};
-use bungero::{Refused, RefusedEffect, RefusedList, RefusedPaste, RefusedSheet};
+use bungero::{check, combine, figure_of, raw, read, reduced_load, report, report_into};
+use bungero::{Column, Effects, GoverningRow, Line, Newtons, Sheet, SheetDoubles, SheetEffects, Working};
+use bungero::{Refused, RefusedEffect, RefusedList, RefusedPaste, RefusedSheet, RefusedWrite};
+use bungero::{LINES, REPORT_ROOM, SHEET_ROOM};
 use paper::{SAMPLE, SAMPLE_REPORT};
 use random::Random;
 
@@ -56,6 +57,56 @@ fn try_read() {
     assert_eq!(column.ask(3).map(|working| working.floors), Ok(3));
     let text = b"member=12\ndead=-1\nroof=2\nsnow=-3\nrain=4\nwind=-5\nquake=6\n";
     assert_eq!(<[i64; 6]>::from(read(text).unwrap().effects), [-1, 2, -3, 4, -5, 6]);
+}
+
+// The sample written back, with just enough room, with more and with a byte less; and saved with a line more, which is
+// read again.
+fn try_written() {
+    let mut sheet = read(SAMPLE).unwrap();
+    for fill in [0, 0xff] {
+        let mut out = [fill; SHEET_ROOM];
+        let (written, after) = out.split_at_mut(SAMPLE.len());
+        let no_room = RefusedWrite { number: NO_ROOM, place: 0, value: 0.0 };
+        assert_eq!(sheet.write_into(&mut written[1..]), Err(no_room));
+        assert_eq!(sheet.write_into(&mut []), Err(no_room));
+        assert!(written.iter().all(|&byte| byte == fill), "a refusal wrote to the buffer");
+        assert_eq!(sheet.write_into(written), Ok(SAMPLE.len()));
+        assert!(written == SAMPLE && after.iter().all(|&byte| byte == fill));
+        assert_eq!(sheet.write_into(&mut out), Ok(SAMPLE.len()));
+        assert!(out.starts_with(SAMPLE) && out[SAMPLE.len()..].iter().all(|&byte| byte == fill));
+    }
+    sheet.column.enter(line(3, 2, 2500, 1000)).unwrap();
+    sheet.effects.wind = -60_000;
+    let mut out = [0; SHEET_ROOM];
+    let length = sheet.write_into(&mut out).unwrap();
+    assert_eq!(read(&out[..length]), Ok(sheet));
+}
+
+// Refused effects of a sheet, equal bit for bit where the double is a NaN; minus zero is written as 0.
+fn try_refused_writes() {
+    let column = Column::open(12).unwrap();
+    let signalling = f64::from_bits(0xfff0_0000_0000_0001);
+    let not_whole = [0.5, f64::NEG_INFINITY, f64::NAN, signalling].map(|value| (value, NOT_WHOLE));
+    let beyond = [1e12 + 1.0, f64::MIN].map(|value| (value, BEYOND_LIMIT));
+    let mut out = [0xa5; 100];
+    for (value, number) in not_whole.into_iter().chain(beyond) {
+        for place in 1..=6 {
+            let mut doubles = [-1e12; 6];
+            doubles[place as usize - 1] = value;
+            let refused = RefusedWrite { number, place, value };
+            assert_eq!(column.write_into(doubles.into(), &mut []), Err(refused));
+            assert_eq!(column.write_into(doubles.into(), &mut out), Err(refused));
+            assert_ne!(refused, RefusedWrite { value: f64::from_bits(value.to_bits() ^ 1), ..refused });
+        }
+    }
+    let too_great = SheetEffects { snow: i64::MIN, ..SheetEffects::default() };
+    let refused = RefusedWrite { number: BEYOND_LIMIT, place: 3, value: i64::MIN as f64 };
+    assert_eq!(Sheet { column: column.clone(), effects: too_great }.write_into(&mut out), Err(refused));
+    assert!(out == [0xa5; 100], "a refusal wrote to the buffer");
+    let effects = SheetDoubles { dead: -0.0, wind: -7.0, ..SheetDoubles::default() };
+    let text = b"member=12\ndead=0\nroof=0\nsnow=0\nrain=0\nwind=-7\nquake=0\n";
+    assert_eq!(column.write_into(effects, &mut out), Ok(text.len()));
+    assert_eq!(&out[..text.len()], text);
 }
 
 // Refused sheets, by both calls: number, line, and the part in the caller's own text; no byte of the buffer is written.
@@ -206,6 +257,8 @@ fn try_display() {
     assert_eq!(shown(&RefusedList { number: AREA, place: 12 }), "refused=6 place=12");
     assert_eq!(shown(&RefusedSheet { number: FORM, line: 3, part: b"" }), "refused=10 line=3");
     assert_eq!(shown(&RefusedEffect { number: NOT_WHOLE, place: 7, value: -0.5 }), "refused=8 place=7 value=-0.5");
+    assert_eq!(shown(&RefusedWrite { number: NOT_WHOLE, place: 3, value: 0.25 }), "refused=8 place=3 value=0.25");
+    assert_eq!(shown(&RefusedWrite { number: NO_ROOM, place: 0, value: 0.0 }), "refused=12");
 }
 
 // A load, a class, a count of floors and an influence area; loads and classes are good more often than not.
@@ -256,6 +309,8 @@ fn main() {
     try_report();
     try_read();
     try_refused_sheets();
+    try_written();
+    try_refused_writes();
     try_printed_columns();
     try_printed_loads();
     try_effects();

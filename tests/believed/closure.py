@@ -18,7 +18,7 @@ SECTIONS = (
 )
 PLACE = re.compile(r"-- 01, (%s)(?: and (?:%s))*: \S" % (("|".join(map(re.escape, SECTIONS)),) * 2))
 # The requests of paper 02 that have landed, by how places name them, with their titles there.
-REQUESTS = {"CR 1": "CR 1. A whole floor pasted in"}
+REQUESTS = {"CR 1": "CR 1. A whole floor pasted in", "CR 2": "CR 2. Saving a column"}
 REQUEST = re.compile(r"-- 02, (%s): \S" % "|".join(map(re.escape, REQUESTS)))
 UNPLACED = "-- No part of the paper: "
 

@@ -1,4 +1,4 @@
-"""Holds the proved tables against the paper and the reckoning: rows of figures, examples of columns, and pastes.
+"""Holds the proved tables against the paper and the reckoning: figures, examples of columns, pastes, and writes.
 
 A table is read out of the text of its definition alone. The text must have the form that is looked for to the last
 sign; what has another form is not passed over but said to be unreadable.
@@ -7,8 +7,11 @@ sign; what has another form is not passed over but said to be unreadable.
 import re
 from collections import Counter
 from dataclasses import astuple
+from fractions import Fraction
+from struct import pack
 
-from reckoning.column import ask_list, column_of, require_asked
+from reckoning import writes
+from reckoning.column import Line, ask_list, column_of, require_asked
 from reckoning.combination import agreed
 from reckoning.lists import at_floor
 from reckoning.paper import INTERIOR, PAPER_ROWS, SHEET
@@ -19,6 +22,7 @@ from reckoning.reduction import TABLE_4_2, factor
 JOINED_BY, LIST_END = "\N{PROPORTION}", "[]"  # the sign is four dots
 NUMBER = "[0-9]+"
 LISTS = r"(?:\[\]|\w+|\([\w +()]+\))"  # no list, one by its name, or several joined by ++
+DOUBLE = r"(nan|\(inf (?:true|false)\)|\((?:whole|uplift|halves) [0-9]+\))"
 
 
 class Unreadable(Exception):
@@ -245,4 +249,52 @@ def complaints_of_pastes(text):
         right = pasted(1, held, lines)
         if (number, kept, then) != (right.number, right.kept, tuple(astuple(line) for line in right.lines)):
             said.append(f"paste of {lines} on {held}: reckoned {right}")
+    return said
+
+
+# ---- Writes ---------------------------------------------------------------
+
+
+def pattern_of(word):
+    """The pattern of a double: `nan`, `(inf true)` below 0, so many newtons, upwards with a minus sign, or halves."""
+    if word == "nan":
+        return 0x7FF8 << 48
+    kind, value = word.strip("()").split()
+    if kind == "inf":
+        return (0xFFF0 if value == "true" else 0x7FF0) << 48
+    size = Fraction(int(value), 2 if kind == "halves" else 1)
+    if Fraction(float(size)) != size:
+        raise Unreadable(f"no double has the value of `{word}`")
+    return int.from_bytes(pack(">d", -float(size) if kind == "uplift" else float(size)), "big")
+
+
+def told_of(item):
+    """What a row of writing tells, as the reckoning has it: a text with | for the newline, a refused effect, or 12."""
+    if item == "noRoom":
+        return writes.Written(12)
+    if item.startswith("(puts "):
+        (text,) = re.fullmatch(r'\(puts "([^"]*)"\)', item).groups()
+        return writes.Written(0, text.replace("|", "\n").encode("ascii"))
+    number, place, double = matched(rf"\(refuses N N {DOUBLE}\)", item).groups()
+    return writes.Written(int(number), place=int(place), pattern=pattern_of(double))
+
+
+def writes_of(text):
+    """The rows of the definition `examples` of writing: code, lines, six doubles, bytes of the buffer, what is told."""
+    form = rf'example N ({LISTS}) \(six {" ".join([DOUBLE] * 6)}\) N (noRoom|\(puts "[^"]*"\)|\(refuses .*\))'
+    rows = []
+    for item in items_of(text, "examples"):
+        code, lines, *doubles, room, told = matched(form, item).groups()
+        patterns = tuple(pattern_of(double) for double in doubles)
+        rows.append((int(code), lines_of(text, lines), patterns, int(room), told_of(told)))
+    return rows
+
+
+def complaints_of_writes(text):
+    """The writes that are not what is reckoned."""
+    said = []
+    for code, lines, patterns, room, told in writes_of(text):
+        right = writes.written(code, tuple(Line(*line) for line in lines), patterns, room)
+        if told != right:
+            said.append(f"write of code {code}, {lines} and {patterns} into {room} bytes: reckoned {right}")
     return said

@@ -7,6 +7,7 @@ from reckoning import trial_sheet_damaged, trial_sheet_read
 from reckoning.sheet import read, report_of
 from reckoning.trial_reduction import Lot, require
 from reckoning.trial_whole import fresh_by_kind
+from reckoning.writes import written_back
 
 STDIN = "crates/trial_sheet/stdin"
 STDOUT = "crates/trial_sheet/stdout"
@@ -70,10 +71,15 @@ def asked(sheet):
     return b"sheet %d\n" % len(sheet) + sheet
 
 
+def told_back(sheet, reading):
+    """What it is to print of writing a sheet that is read: the length, and that it is the sheet; else nothing."""
+    return b"" if reading.number != 0 else b"written=%d same\n" % len(written_back(sheet, reading))
+
+
 def told(sheet, reading):
-    """What the trial program is to print for a sheet: the report, then the place of the part and the part itself."""
+    """What the trial program is to print for a sheet: the report, the place of the part and the part, the writing."""
     place = f"start={reading.start} end={reading.end} part=".encode("ascii")
-    return report_of(reading) + place + sheet[reading.start : reading.end] + b"\n"
+    return report_of(reading) + place + sheet[reading.start : reading.end] + b"\n" + told_back(sheet, reading)
 
 
 def files():

@@ -51,8 +51,8 @@ more-within [] z f h (suc k) = f k
 more-within (x ∷ xs) z f h zero = f 0
 more-within (x ∷ xs) z f h (suc k) = more-within xs z (λ m. f (suc m)) h k
 
--- as many as are taken and left, each within the limit
-all-kept : (taken : List ℤ) (es : List LoadEffect) {xs : List ℤ} → EachAtMost limit taken → checkedFrom taken es ≡ gives xs → Sized (length taken + length es) limit xs
+-- as many as were taken before and are listed, each within the limit
+pub all-kept : (taken : List ℤ) (es : List LoadEffect) {xs : List ℤ} → EachAtMost limit taken → checkedFrom taken es ≡ gives xs → Sized (length taken + length es) limit xs
 unfolding checkedFrom ifGiven
 all-kept taken [] {xs} f e =
     let q : taken ≡ xs = cc in
@@ -72,10 +72,19 @@ pub checked-seven : (e : Effects) {xs : List ℤ} → checkedOf e ≡ gives xs �
 unfolding checkedOf listed
 checked-seven e h = all-kept [] (listed e) (λ i. omega arith) h
 
--- whole newtons within the limit, handed over as doubles, are taken as they are
+-- whole newtons within the limit, handed over as a double, are taken as they are; so are all seven
+pub double-taken : (z : ℤ) → natAbs z ≤ limit → effectOf (ofInt binary64 z) ≡ gives z
+double-taken z h = effect-whole (ofInt binary64 z) (value-back z (le-trans h (lit≤ tt))) h
+
 pub doubles-taken : (n : Newtons) → Seven limit (newtonsOf n) → checkedOf (doublesOf n) ≡ gives (newtonsOf n)
 unfolding checkedOf checkedFrom ifGiven listed newtonsOf doublesOf
-doubles-taken n s = rw (taken (n .dead) (s .each 0), taken (n .live) (s .each 1), taken (n .roof) (s .each 2), taken (n .snow) (s .each 3), taken (n .rain) (s .each 4), taken (n .wind) (s .each 5), taken (n .quake) (s .each 6))
-  where
-    taken : (z : ℤ) → natAbs z ≤ limit → effectOf (ofInt binary64 z) ≡ gives z
-    taken z h = effect-whole (ofInt binary64 z) (value-back z (le-trans h (lit≤ tt))) h
+doubles-taken n s =
+    rw (
+      double-taken (n .dead) (s .each 0),
+      double-taken (n .live) (s .each 1),
+      double-taken (n .roof) (s .each 2),
+      double-taken (n .snow) (s .each 3),
+      double-taken (n .rain) (s .each 4),
+      double-taken (n .wind) (s .each 5),
+      double-taken (n .quake) (s .each 6),
+    )

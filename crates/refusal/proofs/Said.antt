@@ -10,7 +10,7 @@ use lib.ListN.{getD}
 use borrow.Author.Tests.{ne-eqb}
 use Rattle.refusal.specs.declared.Refusal.{Refusal}
 use Rattle.refusal.specs.declared.Refusal.the-variants.{UnknownCode, TooManyLines, FloorOutOfRange, UnknownClass, LoadOutOfRange, AreaOutOfRange}
-use Rattle.refusal.specs.declared.Refusal.the-variants.{NoLineAtFloor, EffectNotWhole, EffectOutOfRange, SheetMalformed, SheetTooLong}
+use Rattle.refusal.specs.declared.Refusal.the-variants.{NoLineAtFloor, EffectNotWhole, EffectOutOfRange, SheetMalformed, SheetTooLong, BufferTooShort}
 use Rattle.refusal.specs.declared.Answer.{Answer}
 use Rattle.refusal.specs.declared.Answer.the-variants.{Gives, Refused}
 use Rattle.refusal.specs.Refusal.{numberOf}
@@ -29,6 +29,7 @@ refusals =
     ∷ EffectOutOfRange
     ∷ SheetMalformed
     ∷ SheetTooLong
+    ∷ BufferTooShort
     ∷ []
 
 -- the refusal of a number, and the answer of what is said
@@ -52,6 +53,7 @@ of-number EffectNotWhole = refl
 of-number EffectOutOfRange = refl
 of-number SheetMalformed = refl
 of-number SheetTooLong = refl
+of-number BufferTooShort = refl
 
 of-said : (a : Answer) → answerOf (saidAnswer a) ≡ a
 unfolding answerOf saidAnswer
@@ -80,6 +82,7 @@ number-positive EffectNotWhole = omega arith
 number-positive EffectOutOfRange = omega arith
 number-positive SheetMalformed = omega arith
 number-positive SheetTooLong = omega arith
+number-positive BufferTooShort = omega arith
 
 -- so a number tells whether something is refused
 pub by-number : {P : Type 0} (n : ℕ) → (n ≡ 0 → P) → (1 ≤ n → P) → P

@@ -1,8 +1,8 @@
-// The refusals, named for what is wrong, and the number that paper 01 gives each.
+// The refusals, named for what is wrong, and the number that the papers give each.
 ghost use mathlib.Core.Path.{_≡_};
 ghost use Rattle.refusal.specs.Refusal.{numberOf};
 
-// Why a call was not carried out (01, Numbers by the place of checking).
+// Why a call was not carried out (01, Numbers by the place of checking; from 12 on 02).
 pub enum Refusal {
     // A member's code is not 1 to 12.
     UnknownCode,
@@ -26,6 +26,8 @@ pub enum Refusal {
     SheetMalformed,
     // A sheet is longer than 32,768 bytes.
     SheetTooLong,
+    // A buffer is shorter than the text that is to be written to it.
+    BufferTooShort,
 }
 
 // A whole number, or why there is none.
@@ -50,5 +52,6 @@ pub fn number(refusal: Refusal) -> u64
         Refusal::EffectOutOfRange => 9,
         Refusal::SheetMalformed => 10,
         Refusal::SheetTooLong => 11,
+        Refusal::BufferTooShort => 12,
     }
 }

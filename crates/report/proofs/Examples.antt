@@ -2,8 +2,7 @@
 -- Assumes nothing.
 use mathlib.Core.Path.{refl}
 use Rattle.text.specs.Text.{joined, lastDigit, digitsIn, decimal, signedParts}
-use Rattle.text.specs.theorems.Texts.{textOf}
-use Rattle.text.specs.Lines.{withByte, split}
+use Rattle.text.specs.Lines.{textOf, withByte, split}
 use Rattle.lists.specs.Lists.{All, none, more, keep, some, total}
 use Rattle.reduction.specs.Least.{leastFrom}
 use Rattle.member.specs.Member.{table4·2, tableFactor}

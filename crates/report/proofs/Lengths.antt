@@ -1,17 +1,16 @@
 -- How long the printed lines are, and that all of them find room in 4096 bytes.
 -- Assumes nothing.
-use mathlib.Core.Path.{_≡_, refl, _∙_, ap, subst⁻¹}
+use mathlib.Core.Path.{_≡_, refl, subst⁻¹}
 use mathlib.Core.Bool.{Bool}
-use mathlib.Core.List.{List, _++_}
+use mathlib.Core.List.{List}
 use Prim.Native.Nat.{ℕ, zero, suc, _+_, _*_, _-_, _≤_}
 use native.Mathlib.Omega.{arith}
 use lib.IntN.{ℤ, natAbs}
 use lib.ListN.{length, length-append}
 use mir.Syntax.{w64}
 use mir.Val.{Fits}
-use Rattle.text.specs.Text.{bytesOf, joined, decimal}
-use Rattle.text.specs.theorems.Texts.{signedDecimal}
-use Rattle.text.proofs.Puts.{joined-append}
+use Rattle.text.specs.Text.{bytesOf, joined, decimal, signedDecimal}
+use Rattle.text.proofs.Puts.{joined-append, joined-length}
 use Rattle.text.proofs.Decimal.{length-most}
 use Rattle.text.proofs.Sign.{signed-length}
 use Rattle.refusal.specs.Said.{Said, gives, refused}
@@ -36,9 +35,6 @@ use Rattle.sheet.specs.declared.Sheet.{Sheet}
 use Rattle.sheet.specs.Keeps.{Keeps}
 use Rattle.report.specs.Report.{floorLine, floorLineOf, floorLines, effectsOf, governingLine, governingLines, takedownOf, refusalLine}
 use Rattle.report.proofs.Live.{seven-within}
-
-joined-length : (vs ws : List (List ℕ)) → length (joined (vs ++ ws)) ≡ length (joined vs) + length (joined ws)
-joined-length vs ws = ap length (joined-append vs ws) ∙ length-append (joined vs) (joined ws)
 
 -- the length of a floor's line, by the numbers in it
 pub floor-length : (f : ℕ) (w : Working)

@@ -10,8 +10,7 @@ use lib.ListN.{length, drop, take, drop-of-length-le, length-drop, length-append
 use lib.Seq.{length-take-le}
 use borrow.Author.Tests.{le-ltb}
 use Rattle.sheet.specs.declared.Reading.{Reading}
-use Rattle.text.specs.theorems.Texts.{ended}
-use Rattle.text.specs.Lines.{Lines, line, rest, split, endFrom}
+use Rattle.text.specs.Lines.{ended, Lines, line, rest, split, endFrom}
 use Rattle.sheet.specs.Sheet.{Draft, Taken, unread, isComplete, lineTaken, reading, ifRead, readFrom, readSheet}
 use Rattle.sheet.specs.Keeps.{Keeps}
 use Rattle.text.proofs.Lines.{bytes, bytes-split}

@@ -16,7 +16,7 @@ use Rattle.sheet_lines.specs.declared.number.Number.{Number}
 use Rattle.sheet_lines.specs.declared.number.Number.the-variants.{Is, Not}
 use Rattle.sheet_lines.specs.Number.{numberAt, begins, fieldAt}
 use Rattle.sheet_lines.specs.Form.{withNumber, fieldsFrom}
-use Rattle.sheet_lines.specs.theorems.Says.{fieldsText}
+use Rattle.sheet_lines.specs.LineText.{fieldsText}
 use Rattle.sheet_lines.proofs.AtPlace.{chosen, either, begins-from, begins-to}
 use Rattle.sheet_lines.proofs.NumberText.{NoDigit, stops-end, stops-low, number-from, number-to}
 

@@ -13,8 +13,7 @@ use lib.IntN.{ℤ, pos, negsuc, natAbs}
 use borrow.Author.Tests.{eq-eqb, ne-eqb, lt-ltb, eqb-true, eqb-false, ltb-true}
 use Rattle.lists.specs.Lists.{All, none as nil, more}
 use Rattle.lists.proofs.Lists.{by-places}
-use Rattle.text.specs.Text.{minus, decimal}
-use Rattle.text.specs.theorems.Texts.{signedDecimal}
+use Rattle.text.specs.Text.{minus, decimal, signedDecimal}
 use Rattle.text.proofs.Decimal.{length-some, decimal-all}
 use Rattle.text.proofs.Sign.{signed-pos, signed-neg}
 use Rattle.newtons.specs.Effect.{signed}
@@ -24,8 +23,8 @@ use Rattle.sheet_lines.specs.declared.Form.{Form}
 use Rattle.sheet_lines.specs.declared.Form.the-variants as F
 use Rattle.sheet_lines.specs.Number.{numberAt, begins}
 use Rattle.sheet_lines.specs.Form.{memberKeys, floorKeys, effectKeys, effectCount, withNumber, fieldsFrom, formBy, memberForm, lineFrom, floorForm, effectEnd, effectForm, isFloor, laterForm, formOf}
-use Rattle.sheet_lines.specs.theorems.Says.{lineNumbers, keyAt}
-use Rattle.sheet_lines.specs.theorems.Says.{fieldsText, memberText, floorText, effectText, as-written, Says, member, floor, effect}
+use Rattle.sheet_lines.specs.LineText.{lineNumbers, fieldsText, memberText, floorText, effectText}
+use Rattle.sheet_lines.specs.theorems.Says.{keyAt, as-written, Says, member, floor, effect}
 use Rattle.sheet_lines.proofs.AtPlace.{either, begins-from, begins-to}
 use Rattle.sheet_lines.proofs.NumberText.{stops-end, number-from, number-to}
 use Rattle.sheet_lines.proofs.Fields.{with-number, fields-from, fields-to, Short, lowAfter, low}

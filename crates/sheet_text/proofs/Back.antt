@@ -28,16 +28,16 @@ use Rattle.sheet_lines.specs.declared.Due.the-variants as D
 use Rattle.sheet_lines.specs.declared.Form.{Form}
 use Rattle.sheet_lines.specs.declared.Form.the-variants as F
 use Rattle.sheet_lines.specs.Form.{effectKeys, effectCount, saidForm, lineSaid}
-use Rattle.sheet_lines.specs.theorems.Says.{lineNumbers, keyAt}
-use Rattle.sheet_lines.specs.theorems.Says.{memberText, floorText, effectText, as-written, Says, member, floor, effect}
+use Rattle.sheet_lines.specs.LineText.{lineNumbers, memberText, floorText, effectText}
+use Rattle.sheet_lines.specs.theorems.Says.{keyAt, as-written, Says, member, floor, effect}
 use Rattle.sheet_lines.proofs.SaysForm.{ShortForm, says-form}
 use Rattle.sheet.specs.declared.Sheet.{Sheet}
-use Rattle.text.specs.Lines.{newline, line, split}
-use Rattle.text.specs.theorems.Texts.{ended, textOf}
+use Rattle.text.specs.Lines.{newline, line, split, ended, textOf}
 use Rattle.sheet.specs.Sheet.{Draft, unread, isComplete, withColumn, ifTaken, effectNumber, valued, lineTaken, ifRead, readFrom, readSheet}
 use Rattle.sheet.specs.Keeps.{Keeps}
 use Rattle.sheet.proofs.Kept.{each-within}
-use Rattle.sheet_text.specs.theorems.Written.{effectLines, linesWith, linesIn, written, SayFloors, no-line, and-line}
+use Rattle.sheet_text.specs.Written.{effectLines, linesIn, written}
+use Rattle.sheet_text.specs.theorems.Saying.{linesWith, SayFloors, no-line, and-line}
 use Rattle.sheet_text.specs.theorems.Exactly.{readAs, Exactly}
 use Rattle.sheet_text.proofs.Sizes.{says-clean, says-length}
 use Rattle.text.proofs.Lines.{split-line, text-more}
@@ -176,16 +176,27 @@ floors-only : {fs : List (List ℕ)} {xs : List Line} → SayFloors fs xs → fs
 floors-only no-line = refl
 floors-only (and-line {x = x} (as-written e) s) = rw (e, floors-only s)
 
+lines-all : (s : Sheet) → Keeps s → linesIn s ≡ linesWith (map floorText (linesOf (s .column))) effectCount s
+unfolding linesIn linesWith effectKeys
+lines-all s ok =
+    let es = effectLines effectKeys (s .effects) in
+    let six = lines-length effectKeys (s .effects) (ok .effects .count) in
+    rw (take-all effectCount es (omega arith))
+
 -- 01, The sheet: a text is read exactly when it says a sheet that keeps the limits
 pub exactly : Exactly
-unfolding written linesIn
+unfolding written
 exactly =
     record {
       said = read-is-said;
       read = λ s ls say ok. subst⁻¹ (λ (k : List (List ℕ)). readSheet (textOf k) ≡ readAs s k) (say .all) (reads-whole s ok (say .floors) (say .say));
-      back = λ s ok. reads-whole s ok (map floorText (linesOf (s .column))) (floors-said (linesOf (s .column)));
+      back =
+          λ s ok.
+          subst⁻¹ (λ (k : List (List ℕ)). readSheet (textOf k) ≡ readAs s k) (lines-all s ok)
+          (reads-whole s ok (map floorText (linesOf (s .column))) (floors-said (linesOf (s .column))));
       only =
           λ text e.
           let r = read-is-said text e in
-          r .is ∙ ap textOf (r .say .all ∙ ap (λ (k : List (List ℕ)). linesWith k effectCount (readSheet text .sheet)) (floors-only (r .say .say)));
+          let s = readSheet text .sheet in
+          r .is ∙ ap textOf (r .say .all ∙ (ap (λ (k : List (List ℕ)). linesWith k effectCount s) (floors-only (r .say .say)) ∙ sym (lines-all s (r .keeps))));
     }

@@ -14,12 +14,12 @@ use Rattle.sheet_lines.specs.declared.Due.the-variants as D
 use Rattle.sheet_lines.specs.Form.{effectKeys, effectCount}
 use Rattle.sheet.specs.declared.Sheet.{Sheet}
 use Rattle.sheet.specs.declared.Reading.{Reading}
-use Rattle.text.specs.Lines.{newline, Lines, line, rest, split}
-use Rattle.text.specs.theorems.Texts.{ended, textOf}
+use Rattle.text.specs.Lines.{newline, Lines, line, rest, split, ended, textOf}
 use Rattle.sheet.specs.Sheet.{Draft, Taken, unread, isComplete, lineTaken, reading, ifRead, readFrom, readSheet}
 use Rattle.sheet.specs.inner.SoFar.{KeepsSoFar}
 use Rattle.sheet.proofs.Kept.{Kept, unread-kept, line-kept, read-keeps}
-use Rattle.sheet_text.specs.theorems.Written.{effectLines, linesWith, SayBefore, Say}
+use Rattle.sheet_text.specs.Written.{effectLines}
+use Rattle.sheet_text.specs.theorems.Saying.{linesWith, SayBefore, Say}
 use Rattle.sheet_text.specs.theorems.Exactly.{ReadIsSaid, Fault, missing, unended, refused, StopsAtFault, RefusedAtFirst}
 use Rattle.text.proofs.Lines.{Clean, clean-line, clean-rest, clean-split, bytes, bytes-split, text-more}
 use Rattle.sheet_text.proofs.SaidSoFar.{lines-length, line-adds}

@@ -19,11 +19,13 @@ use Rattle.sheet_lines.specs.declared.Due.{Due}
 use Rattle.sheet_lines.specs.declared.Form.{Form}
 use Rattle.refusal.specs.Refusal.{numberOf}
 use Rattle.sheet_lines.specs.Form.{effectKeys, saidForm, lineSaid}
-use Rattle.sheet_lines.specs.theorems.Says.{effectText, SaysFloor, member, floor, effect, keyAt}
+use Rattle.sheet_lines.specs.LineText.{effectText}
+use Rattle.sheet_lines.specs.theorems.Says.{SaysFloor, member, floor, effect, keyAt}
 use Rattle.sheet_lines.proofs.SaysForm.{Read, says, malformed, form-read}
 use Rattle.sheet.specs.Sheet.{Draft, ifTaken, valued, lineTaken}
 use Rattle.sheet.proofs.Kept.{Kept}
-use Rattle.sheet_text.specs.theorems.Written.{effectLines, linesWith, SayFloors, no-line, and-line, SayWith, SayBefore}
+use Rattle.sheet_text.specs.Written.{effectLines}
+use Rattle.sheet_text.specs.theorems.Saying.{linesWith, SayFloors, no-line, and-line, SayWith, SayBefore}
 
 -- one floor line more is said
 say-more : {fs : List (List ℕ)} {xs : List Line} {l : List ℕ} {x : Line} → SayFloors fs xs → SaysFloor l x → SayFloors (fs ++ (l ∷ [])) (xs ++ (x ∷ []))

@@ -8,8 +8,7 @@ use native.Mathlib.Omega.{arith}
 use lib.ListN.{length, length-append}
 use lib.IntN.{ℤ, pos, negsuc, natAbs}
 use borrow.Author.Tests.{ne-eqb}
-use Rattle.text.specs.Text.{joined, decimal}
-use Rattle.text.specs.theorems.Texts.{signedDecimal}
+use Rattle.text.specs.Text.{joined, decimal, signedDecimal}
 use Rattle.text.specs.theorems.Texts.{newlines}
 use Rattle.text.proofs.Sign.{signed-pos, signed-neg, signed-length}
 use Rattle.text.proofs.Decimal.{length-most, decimal-all}
@@ -17,8 +16,8 @@ use Rattle.lists.specs.Lists.{All, none, more}
 use Rattle.sheet_lines.specs.declared.Due.{Due}
 use Rattle.sheet_lines.specs.declared.Form.{Form}
 use Rattle.sheet_lines.specs.Form.{memberKeys, floorKeys, effectKeys}
-use Rattle.sheet_lines.specs.theorems.Says.{lineNumbers, keyAt}
-use Rattle.sheet_lines.specs.theorems.Says.{fieldsText, memberText, floorText, effectText, as-written, Says, member, floor, effect}
+use Rattle.sheet_lines.specs.LineText.{lineNumbers, fieldsText, memberText, floorText, effectText}
+use Rattle.sheet_lines.specs.theorems.Says.{keyAt, as-written, Says, member, floor, effect}
 use Rattle.sheet_lines.proofs.Fields.{Short}
 use Rattle.sheet_lines.proofs.SaysForm.{ShortForm}
 

@@ -1,3 +1,3 @@
 -- Statements of theorems, and what only they speak of; no promise reaches them.
 pub mod Exactly
-pub mod Written
+pub mod Saying

@@ -45,10 +45,10 @@ unfolding decimal
 decimal-more zero h = absurd (omega arith)
 decimal-more (suc k) h = more k (suc k) h (omega arith)
 
-length-small : (n : ℕ) → n < 10 → length (decimal n) ≡ 1
+pub length-small : (n : ℕ) → n < 10 → length (decimal n) ≡ 1
 length-small n h = ap length (decimal-small n h)
 
-length-more : (n : ℕ) → 10 ≤ n → length (decimal n) ≡ length (decimal (n / 10)) + 1
+pub length-more : (n : ℕ) → 10 ≤ n → length (decimal n) ≡ length (decimal (n / 10)) + 1
 length-more n h = ap length (decimal-more n h) ∙ length-append (decimal (n / 10)) _
 
 -- a tenth of a number below 10 ^ (k + 1) is below 10 ^ k

@@ -7,8 +7,8 @@ use Prim.Native.Nat.{ℕ, _+_}
 use native.Mathlib.Omega.{arith}
 use lib.Dec.{eqb}
 use borrow.Author.Tests.{eqb-true}
-use Rattle.text.specs.Lines.{newline, Lines, line, rest, withByte, split}
-use Rattle.text.specs.theorems.Texts.{ended, textOf, newlines}
+use Rattle.text.specs.Lines.{newline, Lines, line, rest, withByte, split, ended, textOf}
+use Rattle.text.specs.theorems.Texts.{newlines}
 
 -- no line has a newline in it
 pub data Clean : Lines → Type 0 where
@@ -65,8 +65,12 @@ bytes-split (b ∷ bs) = go (eqb b newline) refl (bytes-split bs)
     go true e h = rw (h, eqb-true b newline e)
     go false e h = bytes-before b (split bs) ∙ ap (λ (l : List ℕ). b ∷ l) h
 
--- the text of one line more
+-- the text of some lines and then others, and of one line more
+pub text-append : (ls ks : List (List ℕ)) → textOf (ls ++ ks) ≡ textOf ls ++ textOf ks
+unfolding textOf
+text-append [] ks = refl
+text-append (l ∷ ls) ks = rw (text-append ls ks) (sym (append-assoc (ended l) (textOf ls) (textOf ks)))
+
 pub text-more : (ls : List (List ℕ)) (l : List ℕ) → textOf (ls ++ (l ∷ [])) ≡ textOf ls ++ ended l
 unfolding textOf
-text-more [] l = append-nil (ended l)
-text-more (k ∷ ls) l = rw (text-more ls l) (sym (append-assoc (ended k) (textOf ls) (ended l)))
+text-more ls l = text-append ls (l ∷ []) ∙ ap (λ (t : List ℕ). textOf ls ++ t) (append-nil (ended l))

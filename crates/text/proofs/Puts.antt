@@ -36,6 +36,9 @@ unfolding joined
 joined-append [] ws = refl
 joined-append (v ∷ vs) ws = rw (joined-append vs ws) (sym (append-assoc v (joined vs) (joined ws)))
 
+pub joined-length : (vs ws : List (List ℕ)) → length (joined (vs ++ ws)) ≡ length (joined vs) + length (joined ws)
+joined-length vs ws = ap length (joined-append vs ws) ∙ length-append (joined vs) (joined ws)
+
 sets-append : (vs ws l : List ℕ) (i : ℕ) → sets l i (vs ++ ws) ≡ sets (sets l i vs) (i + length vs) ws
 sets-append [] ws l i = ap (λ (k : ℕ). sets l k ws) (sym (add-zero i))
 sets-append (a ∷ vs) ws l i =

@@ -10,8 +10,7 @@ use lib.IntN.{ℤ, pos, negsuc, natAbs}
 use lib.ListN.{length}
 use lib.Signed.{ltZ}
 use borrow.Author.Tests.{le-ltb}
-use Rattle.text.specs.Text.{joined, minus, decimal, signedParts}
-use Rattle.text.specs.theorems.Texts.{signedDecimal}
+use Rattle.text.specs.Text.{joined, minus, decimal, signedParts, signedDecimal}
 
 -- below 0 the sign comes first
 pub signed-below : (z : ℤ) → ltZ z (pos 0) ≡ true → signedParts z ≡ (minus ∷ []) ∷ decimal (natAbs z) ∷ []

@@ -1,7 +1,7 @@
 -- Paper 01, "The sheet": a text as lines, "each ended by one newline byte (10)".
 -- Assumes nothing.
 use mathlib.Core.Bool.{cond}
-use mathlib.Core.List.{List, [], _∷_}
+use mathlib.Core.List.{List, [], _∷_, _++_}
 use Prim.Native.Nat.{ℕ, _+_}
 use lib.Dec.{eqb}
 use lib.ListN.{drop}
@@ -10,6 +10,15 @@ use Rattle.bytes.specs.Bytes.{indexOf}
 -- 01, The sheet: "one newline byte (10)", which ends a line
 abbrev pub newline : ℕ
 newline = 10
+
+-- 01, The sheet: a line, "ended by one newline byte (10)"
+abbrev pub ended : List ℕ → List ℕ
+ended l = l ++ (newline ∷ [])
+
+-- 01, The sheet: the text of lines, "each ended by one newline byte (10)"
+unfoldable pub textOf : List (List ℕ) → List ℕ
+textOf [] = []
+textOf (l ∷ ls) = ended l ++ textOf ls
 
 -- 01, The sheet: a line and the lines after its newline; or what stands after the last newline, nothing or an unended line
 pub data Lines : Type 0 where

@@ -40,3 +40,7 @@ decimal n = digitsIn n n
 unfoldable pub signedParts : ℤ → List (List ℕ)
 signedParts (pos n) = decimal n ∷ []
 signedParts (negsuc n) = (minus ∷ []) ∷ decimal (suc n) ∷ []
+
+-- 01, The sheet: a number with its sign
+abbrev pub signedDecimal : ℤ → List ℕ
+signedDecimal z = joined (signedParts z)

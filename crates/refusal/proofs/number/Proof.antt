@@ -37,6 +37,9 @@ enum-told-10 c = search needs
 enum-told-11 : tie.Need-enum-told-11
 enum-told-11 c = search needs
 
+enum-told-12 : tie.Need-enum-told-12
+enum-told-12 c = search needs
+
 returns : tie.Need-returns
 unfolding numberOf
 returns c = search needs
@@ -81,6 +84,10 @@ returns-11 : tie.Need-returns-11
 unfolding numberOf
 returns-11 c = search needs
 
+returns-12 : tie.Need-returns-12
+unfolding numberOf
+returns-12 c = search needs
+
 pub number-spec : {M : Type 1} → statement M
 number-spec =
     tie.close
@@ -96,6 +103,7 @@ number-spec =
     enum-told-9
     enum-told-10
     enum-told-11
+    enum-told-12
     returns
     returns-2
     returns-3
@@ -106,4 +114,5 @@ number-spec =
     returns-8
     returns-9
     returns-10
-    returns-11)
+    returns-11
+    returns-12)

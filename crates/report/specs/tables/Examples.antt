@@ -5,7 +5,7 @@ use mathlib.Core.List.{List, [], _∷_, map}
 use Prim.Native.Nat.{ℕ}
 use Prim.Native.String.{String}
 use Rattle.text.specs.Text.{bytesOf}
-use Rattle.text.specs.theorems.Texts.{textOf}
+use Rattle.text.specs.Lines.{textOf}
 use Rattle.report.specs.Report.{reportOf}
 
 -- a text of these lines

@@ -6,14 +6,16 @@ use mathlib.Core.Bool.{false}
 use mathlib.Core.List.{List, [], _++_}
 use Prim.Native.Nat.{ℕ, suc, _+_, _≤_, _<_}
 use lib.ListN.{length, take, drop}
-use Rattle.text.specs.theorems.Texts.{ended, textOf, newlines}
+use Rattle.text.specs.Lines.{ended, textOf}
+use Rattle.text.specs.theorems.Texts.{newlines}
 use Rattle.sheet_lines.specs.declared.Due.{Due}
 use Rattle.sheet.specs.declared.Sheet.{Sheet}
 use Rattle.sheet.specs.declared.Reading.{Reading}
 use Rattle.sheet.specs.Sheet.{Draft, unread, isComplete, lineTaken, reading, readSheet}
 use Rattle.sheet.specs.Keeps.{Keeps}
 use Rattle.sheet.specs.inner.SoFar.{KeepsSoFar}
-use Rattle.sheet_text.specs.theorems.Written.{linesIn, written, SayBefore, Say}
+use Rattle.sheet_text.specs.Written.{linesIn, written}
+use Rattle.sheet_text.specs.theorems.Saying.{SayBefore, Say}
 
 -- 01, The sheet: what reading lines that say a sheet gives: 0, the last line, "the empty part at the end", and the sheet
 unfoldable pub readAs : Sheet → List (List ℕ) → Reading

@@ -1,35 +1,22 @@
--- Paper 01, "The sheet": the lines of a sheet, and its text as a writer writes it.
+-- Paper 01, "The sheet": which lines say a sheet.
 -- Assumes nothing.
 use mathlib.Core.Path.{_≡_}
-use mathlib.Core.List.{List, [], _∷_, _++_, map}
+use mathlib.Core.List.{List, [], _∷_, _++_}
 use Prim.Native.Nat.{ℕ}
-use lib.IntN.{ℤ}
 use lib.ListN.{take}
-use Rattle.text.specs.theorems.Texts.{textOf}
 use Rattle.column.specs.declared.Line.{Line}
 use Rattle.column.specs.Column.{linesOf}
 use Rattle.sheet_lines.specs.declared.Due.{Due}
 use Rattle.sheet_lines.specs.declared.Due.the-variants as D
 use Rattle.sheet_lines.specs.Form.{effectKeys, effectCount}
-use Rattle.sheet_lines.specs.theorems.Says.{memberText, floorText, effectText, SaysFloor}
+use Rattle.sheet_lines.specs.LineText.{memberText}
+use Rattle.sheet_lines.specs.theorems.Says.{SaysFloor}
 use Rattle.sheet.specs.declared.Sheet.{Sheet}
-
--- 01, The sheet: effects, "one a line"
-unfoldable pub effectLines : List (List ℕ) → List ℤ → List (List ℕ)
-effectLines (key ∷ keys) (z ∷ zs) = effectText key z ∷ effectLines keys zs
-effectLines (key ∷ keys) [] = []
-effectLines [] zs = []
+use Rattle.sheet_text.specs.Written.{effectLines}
 
 -- 01, The sheet: `member`; then these lines; then the effects before a place
 unfoldable pub linesWith : List (List ℕ) → ℕ → Sheet → List (List ℕ)
 linesWith floors k s = memberText (s .column .member .code) ∷ (floors ++ take k (effectLines effectKeys (s .effects)))
-
--- 01, The sheet: the lines of a sheet, and its whole text
-unfoldable pub linesIn : Sheet → List (List ℕ)
-linesIn s = linesWith (map floorText (linesOf (s .column))) effectCount s
-
-unfoldable pub written : Sheet → List ℕ
-written s = textOf (linesIn s)
 
 -- 01, The sheet: "no or more" lines say floor lines, one each
 pub data SayFloors : List (List ℕ) → List Line → Type 0 where
