@@ -1,4 +1,6 @@
 // A member, its lines and the column that holds them: opening, entering and pasting.
+#![tactic(auto)]
+
 ghost use Rattle.std.specs.Prelude.{◌≡◌};
 ghost use Rattle.column.specs.Line.{entries_of, unpacked, key_of};
 ghost use Rattle.column.specs.Accepted.{last_floor};
@@ -23,7 +25,7 @@ pub type Places = [u64; LINES];
 
 // A line as a caller hands it over, each number as wide as it comes.
 #[repr(C)]
-#[derive(Drop)]
+#[derive(Clone, Copy)]
 pub struct Line {
     pub floor: u64,
     pub class: u64,
@@ -33,14 +35,14 @@ pub struct Line {
 
 // What is known of a member beside its lines.
 #[repr(C)]
-#[derive(Drop)]
+#[derive(Clone, Copy)]
 pub struct Member {
     pub code: u8,
 }
 
 // A member and its accepted lines, in the order in which they were entered.
 #[repr(C)]
-#[derive(Drop)]
+#[derive(Clone, Copy)]
 pub struct Column {
     pub member: Member,
     pub count: u16,
@@ -50,7 +52,7 @@ pub struct Column {
 // What opening a member or entering a line gives: the paper's number, 0 where no condition holds, and the
 // column as it now is.
 #[repr(C)]
-#[derive(Drop)]
+#[derive(Clone, Copy)]
 pub struct Outcome {
     pub number: u64,
     pub column: Column,
@@ -58,7 +60,7 @@ pub struct Outcome {
 
 // What opening a member gives without its places: the paper's number, and the member.
 #[repr(C)]
-#[derive(Drop)]
+#[derive(Clone, Copy)]
 pub struct Opened {
     pub number: u64,
     pub member: Member,
@@ -66,7 +68,7 @@ pub struct Opened {
 
 // What entering in place gives: the paper's number, and how many lines are then held.
 #[repr(C)]
-#[derive(Drop)]
+#[derive(Clone, Copy)]
 pub struct Joined {
     pub number: u64,
     pub count: u16,
@@ -75,7 +77,7 @@ pub struct Joined {
 // What pasting in place gives: the paper's number of the first refusal, 0 where there is none, how many lines
 // of the list were kept, and how many lines are then held.
 #[repr(C)]
-#[derive(Drop)]
+#[derive(Clone, Copy)]
 pub struct Pasted {
     pub number: u64,
     pub kept: u16,

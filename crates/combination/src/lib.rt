@@ -1,4 +1,6 @@
 // The 25 load combinations of seven effects, and the rows that govern.
+#![tactic(auto)]
+
 ghost use Rattle.std.specs.Prelude.{◌≡◌, ◌<◌, get_or};
 ghost use Rattle.effects.specs.declared.Load.TheVariants.{Dead};
 ghost use Rattle.effects.specs.Check.{loads, newtons_of};
@@ -22,7 +24,7 @@ const LOADS: [Load; 7] = [
 
 // A row that governs, 1 to 25: its sum in tenths of a newton, and the same as a double.
 #[repr(C)]
-#[derive(Drop)]
+#[derive(Clone, Copy)]
 pub struct GoverningRow {
     pub row: u64,
     pub tenths: i64,
@@ -31,21 +33,21 @@ pub struct GoverningRow {
 
 // The rows with the greatest and the least sum.
 #[repr(C)]
-#[derive(Drop)]
+#[derive(Clone, Copy)]
 pub struct Governing {
     pub greatest: GoverningRow,
     pub least: GoverningRow,
 }
 
 // The governing rows, or the first effect that is refused.
-#[derive(Drop)]
+#[derive(Clone, Copy)]
 pub enum Combined {
     Governs(Governing),
     Refused(RefusedEffect),
 }
 
 // The governing rows, or the first load whose effect is beyond the limit.
-#[derive(Drop)]
+#[derive(Clone, Copy)]
 pub enum Governed {
     Governs(Governing),
     Beyond(Load),

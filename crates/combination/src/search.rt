@@ -41,7 +41,7 @@ const FACTORS: [[i8; 7]; 25] = [
 ];
 
 // The best sum so far in tenths of a newton, and its row.
-#[derive(Drop)]
+#[derive(Clone, Copy)]
 pub struct Best {
     pub row: u64,
     pub tenths: i64,

@@ -1,4 +1,6 @@
 // The effects of loads, handed over as doubles and checked: whole newtons, or the first that is refused.
+#![tactic(auto)]
+
 ghost use Rattle.std.specs.Prelude.{◌≡◌};
 ghost use Rattle.refusal.specs.Refusal.{number_of};
 ghost use Rattle.refusal.specs.Said.{refused};
@@ -10,7 +12,7 @@ use newtons::Effect;
 use refusal::Refusal;
 
 // The loads, in the order of checking.
-#[derive(Drop)]
+#[derive(Clone, Copy)]
 pub enum Load {
     Dead,
     Live,
@@ -23,7 +25,7 @@ pub enum Load {
 
 // The effects of the seven loads in newtons, as an analysis program hands them over.
 #[repr(C)]
-#[derive(Drop)]
+#[derive(Clone, Copy)]
 pub struct Effects {
     pub dead: f64,
     pub live: f64,
@@ -36,7 +38,7 @@ pub struct Effects {
 
 // The same in whole newtons.
 #[repr(C)]
-#[derive(Drop)]
+#[derive(Clone, Copy)]
 pub struct Newtons {
     pub dead: i64,
     pub live: i64,
@@ -48,21 +50,21 @@ pub struct Newtons {
 }
 
 // The effect of one load, as it came.
-#[derive(Drop)]
+#[derive(Clone, Copy)]
 pub struct LoadEffect {
     pub load: Load,
     pub double: f64,
 }
 
 // A refused effect, and why it is refused.
-#[derive(Drop)]
+#[derive(Clone, Copy)]
 pub struct RefusedEffect {
     pub refusal: Refusal,
     pub effect: LoadEffect,
 }
 
 // All seven in whole newtons, or the first that is refused.
-#[derive(Drop)]
+#[derive(Clone, Copy)]
 pub enum Checked {
     Whole(Newtons),
     Refused(RefusedEffect),

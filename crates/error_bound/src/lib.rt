@@ -1,4 +1,5 @@
 // The figure after a whole list of entries, with demand 3 of the paper.
+#![tactic(auto)]
 ghost use Rattle.std.specs.Prelude.{◌≡◌, ◌≤◌, ◌<◌};
 ghost use Rattle.column.specs.Accepted.{accepted};
 ghost use Rattle.column.specs.Column.{member_of, after, Reached};
@@ -13,7 +14,7 @@ use figure::Asked;
 
 // The entries of a list that were refused: how many, and the number and the place, counted from 1, of the
 // first; zeros where there is none.
-#[derive(Drop)]
+#[derive(Clone, Copy)]
 pub struct Refusals {
     pub count: u64,
     pub number: u64,
@@ -21,14 +22,14 @@ pub struct Refusals {
 }
 
 // What a whole list of entries gives: what asking gives after it, and which entries were refused.
-#[derive(Drop)]
+#[derive(Clone, Copy)]
 pub struct AfterList {
     pub asked: Asked,
     pub refusals: Refusals,
 }
 
 // The column after some entries, and those that were refused.
-#[derive(Drop)]
+#[derive(Clone, Copy)]
 struct Entered {
     column: Column,
     refusals: Refusals,

@@ -8,7 +8,7 @@ use effects::{Checked, Effects, Newtons};
 // What checking gives: the paper's number, 0 where none holds; the place of the refused effect, 1 for
 // dead to 7 for quake, and its double as it came; or the effects in whole newtons. The rest is 0.
 #[repr(C)]
-#[derive(Drop)]
+#[derive(Clone, Copy)]
 pub struct BungeroChecked {
     pub number: u64,
     pub place: u64,

@@ -13,7 +13,7 @@ use member::TributaryArea;
 // What asking gives: the paper's number, 0 where none holds, and n, X and the figure, which are 0
 // where asking is refused.
 #[repr(C)]
-#[derive(Drop)]
+#[derive(Clone, Copy)]
 pub struct BungeroFigure {
     pub number: u64,
     pub floors: u64,

@@ -9,7 +9,7 @@ use effects::Effects;
 // What combining gives: the paper's number, 0 where none holds; the place of the refused effect, 1 for
 // dead to 7 for quake, and its double as it came; or the governing rows. The rest is 0.
 #[repr(C)]
-#[derive(Drop)]
+#[derive(Clone, Copy)]
 pub struct BungeroCombined {
     pub number: u64,
     pub place: u64,

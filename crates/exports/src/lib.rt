@@ -1,4 +1,5 @@
 // What programs in C and Rust call, with answers as structs of numbers.
+#![tactic(auto)]
 pub mod checks;
 pub mod columns;
 pub mod combinations;

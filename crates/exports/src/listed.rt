@@ -10,7 +10,7 @@ use records::Listed;
 // What the list call gives: the paper's number, 0 where none holds, and the place of the refused line,
 // 0 where it is none; and n, X and the figure, which are 0 where the list is refused.
 #[repr(C)]
-#[derive(Drop)]
+#[derive(Clone, Copy)]
 pub struct BungeroListed {
     pub number: u64,
     pub place: u64,

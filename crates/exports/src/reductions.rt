@@ -9,7 +9,7 @@ use refusal::Answer;
 
 // The reduced load: the paper's number, 0 where none holds, and R, which is 0 where it is refused.
 #[repr(C)]
-#[derive(Drop)]
+#[derive(Clone, Copy)]
 pub struct BungeroReduced {
     pub number: u64,
     pub reduced: u64,

@@ -16,7 +16,7 @@ use member::TributaryArea;
 
 // How far down the walk has come: how many lines are carried, the floor of the last of them, and
 // what holds there.
-#[derive(Drop)]
+#[derive(Clone, Copy)]
 struct Descent {
     lines: usize,
     floor: u64,

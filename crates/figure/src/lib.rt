@@ -1,4 +1,6 @@
 // Asking a column at a floor, or working out all floors: how many are carried, the influence area and the figure.
+#![tactic(auto)]
+
 ghost use Rattle.std.specs.Prelude.{◌≡◌};
 ghost use Rattle.column.specs.Line.{lowest_floor};
 ghost use Rattle.column.specs.Column.{lines_of, column_from, Reached};
@@ -24,7 +26,7 @@ pub type Table = [u64; NUMBERS];
 
 // What holds at a floor: the number n of distinct floors carried, the influence area X, and the
 // figure in hundredths of a newton.
-#[derive(Drop)]
+#[derive(Clone, Copy)]
 pub struct Working {
     pub floors: u64,
     pub influence: InfluenceArea,
@@ -32,7 +34,7 @@ pub struct Working {
 }
 
 // What asking at a floor gives, or the paper's number of the refusal.
-#[derive(Drop)]
+#[derive(Clone, Copy)]
 pub enum Asked {
     Gives(Working),
     Refused(u64),

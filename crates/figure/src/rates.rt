@@ -15,7 +15,7 @@ use refusal::Answer;
 
 // A share in units of 2⁻²⁶: of a load it is (load × times + plus) / 2²⁶, rounded down, unless load × doubt
 // more would give another number.
-#[derive(Drop)]
+#[derive(Clone, Copy)]
 pub struct Rate {
     pub times: u64,
     pub plus: u64,
@@ -24,7 +24,7 @@ pub struct Rate {
 
 // What the reduced loads of all lines at a floor follow from: n, X, the twentieths of the formula lines'
 // share where it is clamped, 0 where it is the root, their rate, and `times` of class 2.
-#[derive(Drop)]
+#[derive(Clone, Copy)]
 pub struct Shares {
     pub floors: u64,
     pub influence: InfluenceArea,

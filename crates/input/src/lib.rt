@@ -1,10 +1,11 @@
 // Reading from a descriptor into a lent buffer.
+#![tactic(auto)]
 ghost use Rattle.std.specs.Prelude.{◌≡◌, eqb, length};
 ghost use Rattle.io.specs.Counts.{IsPrefixLen};
 ghost use Rattle.input.specs.Ending.{is_full};
 
 // Why reading stopped: the buffer is full, the input has ended or a read failed.
-#[derive(Drop)]
+#[derive(Clone, Copy)]
 pub enum Ending {
     Full,
     Ended,
@@ -12,7 +13,7 @@ pub enum Ending {
 }
 
 // What was read: so many bytes at the start of the buffer, and why no more.
-#[derive(Drop)]
+#[derive(Clone, Copy)]
 pub struct Input {
     pub count: usize,
     pub ending: Ending,

@@ -1,18 +1,18 @@
 -- What the answer of a test that was called says of the numbers.
 -- Assumes nothing.
 use mathlib.Core.Path.{◌≡◌, sym, ◌∙◌}
-use mathlib.Core.Bool.{Bool, true, false, not, and-eq-true_iff}
+use mathlib.Core.Bool.{Bool, true, false, and-eq-true_iff}
 use Prim.Native.Nat.{ℕ, ◌≤◌}
-use borrow.Author.Tests.{leb-true, le-leb, not-true, not-false}
+use borrow.Author.Tests.{leb-true, le-leb}
 use lib.Dec.{leb}
 use Rattle.member.specs.Between.{between}
 
--- a call b of the test t, and the branch on it that was taken: `if !b` was left, or taken
-pub passed : {b t : Bool} → b ≡ t → not b ≡ false → t ≡ true
-passed e h = sym e ∙ not-false _ h
+-- a call b of the test t, and the branch on it that was taken
+pub passed : {b t : Bool} → b ≡ t → b ≡ true → t ≡ true
+passed e h = sym e ∙ h
 
-pub failed : {b t : Bool} → b ≡ t → not b ≡ true → t ≡ false
-failed e h = sym e ∙ not-true _ h
+pub failed : {b t : Bool} → b ≡ t → b ≡ false → t ≡ false
+failed e h = sym e ∙ h
 
 -- a number between limits
 pub limits : (low high n : ℕ) → between low high n ≡ true → (low ≤ n) × (n ≤ high)

@@ -1,4 +1,6 @@
 // A member and its lines: the factor of a member, limits, and which lines are reduced by the formula.
+#![tactic(auto)]
+
 ghost use Rattle.std.specs.Prelude.{◌≡◌};
 ghost use Rattle.refusal.specs.Said.{said_answer};
 ghost use Rattle.member.specs.Member.{factor_of};
@@ -10,7 +12,7 @@ pub mod limits;
 
 // The floor area whose load a member carries, in dm².
 #[repr(C)]
-#[derive(Drop)]
+#[derive(Clone, Copy)]
 pub struct TributaryArea(pub u64);
 
 // Table 4.2: the factors of the codes 1 to 12, in order.
@@ -28,6 +30,7 @@ pub fn factor(code: u64) -> Answer
 }
 
 // Whether a line's load is reduced by the formula.
+#[tactic(auto, unfolding(crate::specs::Line::is_formula))]
 pub fn is_formula(load: u64, class: u64) -> bool
     ensures { result ≡ is_formula load class }
 {

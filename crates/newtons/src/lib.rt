@@ -1,4 +1,6 @@
 // A double as an effect: the whole number of newtons that it is, and whether that is within the limit.
+#![tactic(auto)]
+
 ghost use Rattle.std.specs.Prelude.{◌≡◌};
 ghost use Rattle.newtons.specs.Effect.{value_of, held_of, said_held, within, effect_of, said_effect};
 
@@ -9,7 +11,7 @@ const LIMIT: u64 = 1_000_000_000_000;
 
 // What a double is, as 64 bits can hold it: a whole number below 2^53 in size, one of 2^53 or more, or
 // not a whole number.
-#[derive(Drop)]
+#[derive(Clone, Copy)]
 pub enum Held {
     Whole(i64),
     Large,
@@ -17,7 +19,7 @@ pub enum Held {
 }
 
 // A double as an effect in newtons; a refused one comes back as it came.
-#[derive(Drop)]
+#[derive(Clone, Copy)]
 pub enum Effect {
     Whole(i64),
     NotWhole(f64),

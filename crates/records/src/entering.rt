@@ -7,7 +7,7 @@ ghost use Rattle.records.specs.inner.Entering.{Sits, outcome_of, entered_all};
 use column::{LINES, Line, Member, Places};
 
 // A member, the number of the first refusal so far, 0 where there is none, and how many lines are then held.
-#[derive(Drop)]
+#[derive(Clone, Copy)]
 pub struct Entered {
     pub member: Member,
     pub number: u64,

@@ -1,4 +1,5 @@
 // The list call: the figure of a lent list of line records, or the number and place of the first refusal.
+#![tactic(auto)]
 ghost use Rattle.std.specs.Prelude.{◌≡◌};
 ghost use Rattle.column.specs.Column.{member_of};
 ghost use Rattle.figure.specs.Asked.{said_working};
@@ -13,7 +14,7 @@ mod entering;
 
 // What a list gives: what holds at the floor, or the paper's number of the refusal and its place. Lines have
 // the places 1, 2 and so on; the place is 0 where the code or the floor is refused.
-#[derive(Drop)]
+#[derive(Clone, Copy)]
 pub enum Listed {
     Gives(Working),
     Refused { number: u64, place: u64 },

@@ -1,4 +1,6 @@
 // CIRSOC 101, 4.7: the share of a live load, and the reduced load.
+#![tactic(auto)]
+
 ghost use Rattle.std.specs.Prelude.{◌≡◌, true, ◌≤◌};
 ghost use Rattle.member.specs.Between.{between};
 ghost use Rattle.member.specs.Line.{is_formula};
@@ -18,7 +20,7 @@ mod share;
 
 // The area that the reduction goes by: K times the summed tributary area of the formula lines
 // carried, in dm².
-#[derive(Drop)]
+#[derive(Clone, Copy)]
 pub struct InfluenceArea(pub u64);
 
 // The share of the formula lines at n floors and the influence area x, in twentieths, where it is

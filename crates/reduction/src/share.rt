@@ -5,7 +5,7 @@ ghost use Rattle.reduction.specs.Share.{formula_share};
 use crate::InfluenceArea;
 
 // What a load is multiplied by: so many twentieths, or 1/4 + 45.7/√X.
-#[derive(Drop)]
+#[derive(Clone, Copy)]
 pub enum Share {
     Twentieths(u64),
     Root(InfluenceArea),

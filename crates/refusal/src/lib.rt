@@ -1,9 +1,11 @@
 // The refusals, named for what is wrong, and the number that the papers give each.
+#![tactic(auto)]
+
 ghost use Rattle.std.specs.Prelude.{◌≡◌};
 ghost use Rattle.refusal.specs.Refusal.{number_of};
 
 // Why a call was not carried out (01, Numbers by the place of checking; from 12 on 02).
-#[derive(Drop)]
+#[derive(Clone, Copy)]
 pub enum Refusal {
     // A member's code is not 1 to 12.
     UnknownCode,
@@ -32,13 +34,14 @@ pub enum Refusal {
 }
 
 // A whole number, or why there is none.
-#[derive(Drop)]
+#[derive(Clone, Copy)]
 pub enum Answer {
     Gives(u64),
     Refused(Refusal),
 }
 
 // The paper's number of a refusal.
+#[tactic(auto, unfolding(crate::specs::Refusal::number_of))]
 pub fn number(refusal: Refusal) -> u64
     ensures { result ≡ number_of refusal }
 {

@@ -1,4 +1,5 @@
 // The report of a text: what takedown prints for a sheet that is read; and the line of a refusal.
+#![tactic(auto)]
 ghost use Rattle.std.specs.Prelude.{◌≡◌, length};
 ghost use Rattle.io.specs.Counts.{IsPrefixLen};
 ghost use Rattle.text.specs.Put.{fronted};
@@ -13,7 +14,7 @@ pub const ROOM: usize = 4096;
 // What reporting gives: the number of the refusal, 0 where the sheet is read; the line K; and how many
 // bytes were put, 0 where the sheet is refused.
 #[repr(C)]
-#[derive(Drop)]
+#[derive(Clone, Copy)]
 pub struct Reported {
     pub number: u64,
     pub line: u64,

@@ -1,4 +1,5 @@
 // A text sheet read into a column and six effects, line by line; and the part of a text that is refused.
+#![tactic(auto)]
 ghost use Rattle.std.specs.Prelude.{◌≡◌, List, ℕ};
 ghost use Rattle.column.specs.inner.Sound.{no_places};
 ghost use Rattle.sheet.specs.Sheet.{reading, read_sheet, offending_of, offending_at};
@@ -18,7 +19,7 @@ pub const LONGEST: usize = 32768;
 
 // What a sheet says: a column, and six effects in newtons, dead to quake; live is worked out from the column.
 #[repr(C)]
-#[derive(Drop)]
+#[derive(Clone, Copy)]
 pub struct Sheet {
     pub column: Column,
     pub effects: [i64; EFFECTS],
@@ -28,7 +29,7 @@ pub struct Sheet {
 // last line where it is read; where the offending part starts and ends; and the sheet, as far as it
 // was read.
 #[repr(C)]
-#[derive(Drop)]
+#[derive(Clone, Copy)]
 pub struct Reading {
     pub number: u64,
     pub line: u64,
@@ -39,7 +40,7 @@ pub struct Reading {
 
 // The same while a sheet is read: its member, its effects and so many lines, whose numbers are in
 // places beside.
-#[derive(Drop)]
+#[derive(Clone, Copy)]
 struct Summary {
     pub number: u64,
     pub line: u64,

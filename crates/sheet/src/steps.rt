@@ -14,7 +14,7 @@ use sheet_lines::{Due, EFFECTS, Form};
 
 // A sheet as far as it was read, its lines aside, whose numbers are in the lent places; and the line
 // that is due. The effects stand first: behind the narrow fields each line took longer to read.
-#[derive(Drop)]
+#[derive(Clone, Copy)]
 pub struct Progress {
     pub effects: [i64; EFFECTS],
     pub due: Due,
@@ -23,7 +23,7 @@ pub struct Progress {
 }
 
 // What becomes of a line: the number of its refusal, 0 where it is taken, and the sheet then.
-#[derive(Drop)]
+#[derive(Clone, Copy)]
 pub struct Step {
     pub number: u64,
     pub progress: Progress,

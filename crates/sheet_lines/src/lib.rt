@@ -1,4 +1,5 @@
 // The form of a line of a sheet: what its words say, whatever its numbers come to.
+#![tactic(auto)]
 ghost use Rattle.std.specs.Prelude.{◌≡◌, [], ◌≤◌, length};
 ghost use Rattle.sheet_lines.specs.Form.{fields_from, member_form, floor_form, effect_end, effect_form, is_floor, later_form, said_form, line_said};
 ghost use Rattle.sheet_lines.specs.inner.InLine.{Starts, parts_of, told};
@@ -11,7 +12,7 @@ mod number;
 
 // The line that is due on a sheet: the member's, or the effect at a place, dead at 0; before dead a floor
 // line may come, and after the last place nothing is due.
-#[derive(Drop)]
+#[derive(Clone, Copy)]
 pub enum Due {
     Member,
     Effect(usize),
@@ -30,7 +31,7 @@ const FLOOR_STARTS: [usize; 5] = [0, 6, 13, 19, 25];
 const EFFECT_STARTS: [usize; EFFECTS + 1] = [0, 5, 10, 15, 20, 25, 31];
 
 // What a line says, by its form.
-#[derive(Drop)]
+#[derive(Clone, Copy)]
 pub enum Form {
     Member(u64),
     Floor(Line),

@@ -4,7 +4,7 @@ ghost use Rattle.sheet_lines.specs.Number.{may_grow, number_ended, number_at, be
 ghost use Rattle.sheet_lines.specs.inner.InLine.{Small};
 
 // The number that stands at a place of a line, and the place after it.
-#[derive(Drop)]
+#[derive(Clone, Copy)]
 pub enum Number {
     Is { value: u64, next: usize },
     Not,

@@ -1,4 +1,5 @@
 // The writer of sheets: the text of a column and six effects, put into a lent buffer.
+#![tactic(auto)]
 ghost use Rattle.std.specs.Prelude.{◌≡◌, leb, length};
 ghost use Rattle.io.specs.Counts.{IsPrefixLen};
 ghost use Rattle.text.specs.Put.{fronted};
@@ -22,7 +23,7 @@ pub const ROOM: usize = 12288;
 
 // The six effects of a sheet in newtons, as they are handed over.
 #[repr(C)]
-#[derive(Drop)]
+#[derive(Clone, Copy)]
 pub struct SheetDoubles {
     pub dead: f64,
     pub roof: f64,
@@ -35,7 +36,7 @@ pub struct SheetDoubles {
 // What writing gives: the number of the refusal, 0 where the sheet is written; the place of the refused
 // effect, 1 for dead to 6 for quake, and its double as it came; and how many bytes were put. The rest is 0.
 #[repr(C)]
-#[derive(Drop)]
+#[derive(Clone, Copy)]
 pub struct Written {
     pub number: u64,
     pub place: u64,

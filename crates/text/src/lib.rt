@@ -1,4 +1,5 @@
 // Text: words, numbers and newlines put into a lent buffer, and the lines of a text.
+#![tactic(auto)]
 ghost use Rattle.std.specs.Prelude.{◌≡◌, [], ◌∷◌};
 ghost use Rattle.text.specs.Text.{decimal, signed_parts};
 ghost use Rattle.text.specs.Lines.{newline};

@@ -11,7 +11,7 @@ use member::TributaryArea;
 const ROOM: usize = 1200;
 
 // The column, the code that was asked for last, and the numbers entered since.
-#[derive(Drop)]
+#[derive(Clone, Copy)]
 pub struct State {
     pub column: Column,
     pub code: u64,

@@ -1,5 +1,6 @@
 // Answers questions about factors, reduced loads and columns, one a line of standard input: a word,
 // then numbers. Its stored output is the second reckoning's.
+#![tactic(auto)]
 ghost use Rattle.column.specs.Column.{Reached};
 
 use crate::columns::State;
@@ -15,7 +16,7 @@ mod print;
 const ROOM: usize = 1048576;
 
 // What a line asks, told by the first letter of its word and how many numbers follow.
-#[derive(Drop)]
+#[derive(Clone, Copy)]
 enum Kind {
     Factor,
     Reduced,
@@ -49,7 +50,7 @@ fn kind_of(word: u8, count: usize) -> Kind {
 }
 
 // What a line asks, and its numbers.
-#[derive(Drop)]
+#[derive(Clone, Copy)]
 struct Question {
     kind: Kind,
     numbers: [u64; 4],

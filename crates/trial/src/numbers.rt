@@ -1,7 +1,7 @@
 // Reads the decimal numbers of a line, parted by single blanks.
 
 // The numbers as far as they are read: the one at `at` is not ended, and has digits or none.
-#[derive(Drop)]
+#[derive(Clone, Copy)]
 pub struct Reading {
     pub well: bool,
     pub digits: bool,

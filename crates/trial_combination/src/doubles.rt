@@ -6,28 +6,28 @@ ghost use Rattle.std.specs.Float.Ieee.{nan_bits};
 use effects::{Effects, Newtons};
 
 // Bits, and whether all their digits are digits.
-#[derive(Drop)]
+#[derive(Clone, Copy)]
 pub struct ReadBits {
     pub well: bool,
     pub bits: u64,
 }
 
 // A double, and the same.
-#[derive(Drop)]
+#[derive(Clone, Copy)]
 pub struct ReadDouble {
     pub well: bool,
     pub double: f64,
 }
 
 // Seven of them, in the order of checking.
-#[derive(Drop)]
+#[derive(Clone, Copy)]
 pub struct ReadEffects {
     pub well: bool,
     pub effects: Effects,
 }
 
 // Seven whole numbers, in the same order.
-#[derive(Drop)]
+#[derive(Clone, Copy)]
 pub struct ReadNewtons {
     pub well: bool,
     pub newtons: Newtons,

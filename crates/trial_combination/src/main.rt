@@ -1,6 +1,7 @@
 // Answers questions about effects and load combinations, one a line of standard input: a word, then
 // the bits of one double, of seven, or of seven whole numbers. Its stored output is the second
 // reckoning's.
+#![tactic(auto)]
 ghost use Rattle.std.specs.Prelude.{◌≡◌, length};
 
 use libc::{STDERR_FILENO, STDIN_FILENO};

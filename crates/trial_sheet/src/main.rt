@@ -1,6 +1,7 @@
 // Prints the report of each sheet of standard input, the part that is refused, and of one that is read
 // whether it is the same when it is written back. Before each sheet stands a line `sheet` and the number
 // of its bytes. Its stored output is the second reckoning's.
+#![tactic(auto)]
 ghost use Rattle.io.specs.Counts.{IsPrefixLen};
 ghost use Rattle.column.specs.Column.{column_from, Reached};
 

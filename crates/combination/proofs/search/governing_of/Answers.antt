@@ -1,0 +1,45 @@
+-- `combination::search::governing_of` meets its contract: both searches are of the definition's sums. Assumes nothing.
+use mathlib.Core.Path.{◌≡◌, sym, ◌∙◌, ap, ap₂, subst}
+use mathlib.Core.Bool.{true, false}
+use Prim.Native.Nat.{◌^◌, ◌≤◌}
+use lib.IntN.{nat_abs}
+use Rattle.newtons.specs.Effect.{limit}
+use Rattle.effects.specs.inner.Sized.{Seven}
+use Rattle.combination.specs.declared.Governing.{Governing}
+use Rattle.combination.specs.declared.GoverningRow.{GoverningRow}
+use Rattle.combination.specs.declared.search.Best.{Best}
+use Rattle.combination.specs.inner.Sense.{sense}
+use Rattle.combination.specs.Governing.{sums, best}
+use Rattle.combination.specs.Combine.{row_of, governing}
+use Rattle.combination.proofs.Governs.{less_order, greater_order}
+use Rattle.combination.proofs.Answers.{best_held}
+use borrow.Author.Rules.{rules}
+use Rattle.combination.proofs.search.governing_of.Goals as goal
+use Rattle.combination.proofs.search.governing_of.Goals.{After-best_of, After-best_of-2, After-listed_newtons}
+
+-- the effects are within the limit, as they came
+within : (c : After-listed_newtons) → Seven limit c.listed_newtons.result
+within c = subst (Seven limit) (sym c.listed_newtons.ensures) c.requires
+
+pub sums_of-sums-requires : goal.sums_of-sums-requires
+sums_of-sums-requires c = within (goal.at.sums_of-sums-requires c).After-listed_newtons
+
+-- each search finds the best of the definition's sums
+greatest-is : (c : After-best_of) → c.best_of.result ≡ best (sense true) (sums c.listed_newtons.result)
+greatest-is c = c.best_of.ensures ∙ ap (best (sense true)) c.sums_of-sums.ensures
+
+least-is : (c : After-best_of-2) → c.best_of-2.result ≡ best (sense false) (sums c.listed_newtons.result)
+least-is c = c.best_of-2.ensures ∙ ap (best (sense false)) c.sums_of-sums.ensures
+
+pub row_of-requires : goal.row_of-requires
+row_of-requires c = subst (λ (b : Best). nat_abs b.tenths ≤ 2 ^ 53) (sym (greatest-is (goal.at.row_of-requires c).After-best_of)) (best_held greater_order _ (within (goal.at.row_of-requires c).After-listed_newtons))
+
+pub row_of-requires-2 : goal.row_of-requires-2
+row_of-requires-2 c = subst (λ (b : Best). nat_abs b.tenths ≤ 2 ^ 53) (sym (least-is (goal.at.row_of-requires-2 c).After-best_of-2)) (best_held less_order _ (within (goal.at.row_of-requires-2 c).After-listed_newtons))
+
+pub returns : goal.returns
+unfolding governing
+returns c =
+    let rows : GoverningRow → GoverningRow → Governing = λ g l. record { greatest = g; least = l } in
+    ap₂ rows (c.row_of.ensures ∙ ap row_of (greatest-is (goal.at.returns c).After-best_of)) (c.row_of-2.ensures ∙ ap row_of (least-is (goal.at.returns c).After-best_of-2))
+    ∙ ap governing c.listed_newtons.ensures

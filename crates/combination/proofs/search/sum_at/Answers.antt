@@ -1,0 +1,28 @@
+-- `combination::search::sum_at` meets its contract: a row of the table is the definition's, and fits. Assumes nothing.
+use mathlib.Core.Path.{◌≡◌, sym, ◌∙◌, ap, subst}
+use mathlib.Core.List.{List, []}
+use lib.IntN.{ℤ}
+use lib.ListN.{get_or}
+use mir.Syntax.{w64}
+use mir.ValLaws.{to_z-of_z}
+use Rattle.effects.specs.inner.Sized.{Seven}
+use Rattle.combination.specs.Factors.{factors}
+use Rattle.combination.specs.Governing.{sum_of}
+use Rattle.combination.proofs.Table.{row_fits, sum_at}
+use borrow.Author.Rules.{rules}
+use Rattle.combination.proofs.search.sum_at.Goals as goal
+use Rattle.combination.proofs.search.sum_at.Goals.{Start}
+
+row_is : (c : Start) → get_or c.args.t1 c.args.i [] ≡ get_or factors c.args.i []
+row_is c = ap (λ (t : List (List ℤ)). get_or t c.args.i []) c.requires.table_value
+
+pub sum_of-requires : goal.sum_of-requires
+sum_of-requires c = record {
+  seven = subst (Seven 16) (sym (row_is (goal.at.sum_of-requires c).Start)) (row_fits c.args.i c.requires.i_bound.0);
+  seven_2 = c.requires.i_bound.1;
+}
+
+pub returns : goal.returns
+returns c =
+    to_z-of_z w64 c.sum_of.result (search rules) ∙ c.sum_of.ensures
+    ∙ (ap (λ (row : List ℤ). sum_of row c.args.newtons) (row_is (goal.at.returns c).Start) ∙ sym (sum_at c.args.newtons c.args.i))

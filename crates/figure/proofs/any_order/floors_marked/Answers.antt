@@ -1,0 +1,83 @@
+-- `figure::any_order::floors_marked` meets its contract: before index i the loop has found the floors of the lines from i on. Assumes nothing.
+use mathlib.Core.Path.{◌≡◌, refl, sym, ◌∙◌, subst, subst⁻¹}
+use mathlib.Core.Bool.{Bool, true, false, cond, ◌||◌}
+use mathlib.Core.List.{List, [], ◌∷◌}
+use Prim.Native.Nat.{ℕ, suc, ◌+◌, ◌-◌, ◌≤◌, ◌<◌}
+use native.Mathlib.Nat.{add_comm}
+use native.Mathlib.Omega.{arith}
+use lib.Dec.{eqb}
+use lib.ListN.{length, get_or, set, replicate, length-set, length-replicate, get_or-replicate}
+use lib.Seq.{get_or-set_same, get_or-set_other}
+use borrow.Author.Tests.{eqb-true, eqb-false}
+use Rattle.lists.specs.Lists.{some}
+use Rattle.lists.proofs.Tests.{cases}
+use Rattle.column.specs.declared.Line.{Line}
+use Rattle.column.specs.inner.Sound.{InLimits, lines_between}
+use Rattle.column.proofs.Lines.{between_none, between_next}
+use Rattle.figure.specs.Carried.{has_floor, floors_of}
+use Rattle.figure.proofs.HeldLines.{room, held_at}
+use borrow.Author.Rules.{rules}
+use Rattle.figure.proofs.any_order.floors_marked.Goals as goal
+use Rattle.figure.proofs.any_order.floors_marked.Goals.{After-line_at-at}
+
+-- what was found of some lines: how many floors they have, with a mark at each
+record Found (ls : List Line) (seen : List Bool) (n : ℕ) : Type 0 where
+  distinct : n ≡ floors_of ls
+  size : length seen ≡ 65
+  marks : (k : ℕ) → k < 65 → get_or seen k false ≡ has_floor k ls
+
+found_none : Found [] (replicate 65 false) 0
+unfolding floors_of has_floor some
+found_none = record { distinct = refl; size = length-replicate 65 false; marks = λ k h. get_or-replicate 65 k false false h }
+
+found-more : {ls : List Line} {seen : List Bool} {n : ℕ} (l : Line) → l.floor ≤ 64 → Found ls seen n
+    → Found (l ∷ ls) (set seen l.floor true) (n + cond (get_or seen l.floor false) 0 1)
+unfolding floors_of has_floor some
+found-more {ls} {seen} {n} l h c =
+    record {
+      distinct = rw (c.marks l.floor (omega arith), c.distinct) (add_comm (floors_of ls) _);
+      size = length-set seen l.floor true ∙ c.size;
+      marks = λ k q.
+          cases (λ (b : Bool). get_or (set seen l.floor true) k false ≡ (b || has_floor k ls)) (eqb l.floor k)
+          (λ e. rw (← eqb-true l.floor k e) (get_or-set_same seen l.floor true false (omega (arith, c.size))))
+          (λ e. get_or-set_other seen l.floor k true false (λ w. eqb-false l.floor k e (sym w)) ∙ c.marks k q);
+    }
+
+-- the line at hand is within its limits
+line_known : (c : After-line_at-at) → InLimits c.line_at-at.result
+line_known c =
+    rw c.line_at-at.ensures (held_at c.requires (c.loop-i.i - 1) (omega arith))
+
+pub loop-i-init : goal.loop-i-init
+loop-i-init c = (
+  omega arith,
+  omega arith,
+  subst⁻¹ (λ (ls : List Line). Found ls (replicate 65 false) 0) (between_none c.args.held.now c.args.end) found_none,
+)
+
+pub line_at-at-requires : goal.line_at-at-requires
+line_at-at-requires c = let ok = c.requires in (ok.size, omega (arith, ok.few))
+
+pub bounds-seen-at : goal.bounds-seen-at
+bounds-seen-at c = omega (arith, line_known (goal.at.bounds-seen-at c).After-line_at-at)
+
+pub bounds-seen-at-in-loop-i : goal.bounds-seen-at-in-loop-i
+bounds-seen-at-in-loop-i c = omega (arith, line_known (goal.at.bounds-seen-at-in-loop-i c).After-line_at-at)
+
+pub overflow_add-floors : goal.overflow_add-floors
+overflow_add-floors c = omega (arith, c.one_if_unseen-floors.ensures.1, c.requires.few)
+
+pub loop-i-preserved : goal.loop-i-preserved
+loop-i-preserved c =
+    let next : suc (c.loop-i.i - 1) ≡ c.loop-i.i = omega arith in (
+      omega arith,
+      omega (arith, c.one_if_unseen-floors.ensures.1),
+      rw (between_next c.args.held.now (c.loop-i.i - 1) c.args.end (omega arith) (room c.requires), next, ← c.line_at-at.ensures, c.one_if_unseen-floors.ensures.0)
+          (found-more c.line_at-at.result (line_known (goal.at.loop-i-preserved c).After-line_at-at).floor.1 c.loop-i.invariant.2),
+    )
+
+pub returns : goal.returns
+returns c =
+    let l = c.loop-i in
+    let zero : l.i ≡ 0 = omega arith in
+    (subst (λ (i : ℕ). Found (lines_between c.args.held.now i c.args.end) l.seen l.floors) zero l.invariant.2).distinct

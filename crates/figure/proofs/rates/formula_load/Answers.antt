@@ -1,0 +1,51 @@
+-- `figure::rates::formula_load` meets its contract: where the rate is not in doubt it gives the reduced load. Assumes nothing.
+use mathlib.Core.Path.{◌≡◌, subst⁻¹, ap}
+use Prim.Native.Nat.{◌*◌, ◌≤◌}
+use native.Mathlib.Nat.{mul-le-mul}
+use native.Mathlib.Omega.{arith}
+use Rattle.figure.specs.declared.rates.Rate.{Rate}
+use Rattle.figure.specs.declared.rates.Shares.{Shares}
+use Rattle.reduction.specs.Share.{clamped_of}
+use Rattle.reduction.specs.Scale.{scale_of}
+use Rattle.figure.specs.inner.Rates.{rate_of, shares_at, formula_load}
+use Rattle.figure.proofs.ByRate.{by, Sure, Small, formula_small, formula_by}
+use borrow.Author.Rules.{rules}
+use Rattle.figure.proofs.rates.formula_load.Goals as goal
+use Rattle.figure.proofs.rates.formula_load.Goals.{Start}
+
+rate : (s : Start) → let n = s.args.shares.floors in
+    let x = s.args.shares.influence in
+    s.args.shares.formula ≡ rate_of (clamped_of n x) (scale_of n x)
+unfolding shares_at
+rate s = ap (λ (t : Shares). t.formula) s.requires.2
+
+rate-small : (s : Start) → Small s.args.shares.formula
+rate-small s = subst⁻¹ Small (rate s) (formula_small s.args.shares.floors s.args.shares.influence)
+
+product : (s : Start) → s.args.load * s.args.shares.formula.times ≤ 5000 * 67108880
+product s = mul-le-mul s.requires.1 (rate-small s).times
+
+doubts : (s : Start) → s.args.load * s.args.shares.formula.doubt ≤ 5000 * 32
+doubts s = mul-le-mul s.requires.1 (rate-small s).doubt
+
+pub overflow_mul-low : goal.overflow_mul-low
+overflow_mul-low c = omega (arith, product (goal.at.overflow_mul-low c).Start)
+
+pub overflow_add-low : goal.overflow_add-low
+overflow_add-low c =
+    let t = (goal.at.overflow_add-low c).Start in
+    omega (arith, product t, (rate-small t).plus)
+
+pub overflow_mul-load : goal.overflow_mul-load
+overflow_mul-load c = omega (arith, doubts (goal.at.overflow_mul-load c).Start)
+
+pub overflow_add-low-2 : goal.overflow_add-low-2
+overflow_add-low-2 c =
+    let t = (goal.at.overflow_add-low-2 c).Start in
+    omega (arith, product t, (rate-small t).plus, doubts t)
+
+pub returns : goal.returns
+returns c =
+    let load = c.args.load in
+    subst⁻¹ (λ (r : Rate). Sure r load → by r load ≡ formula_load c.args.shares load) (rate (goal.at.returns c).Start)
+    (formula_by c.args.shares.floors load c.args.shares.influence c.requires.0 c.requires.1) c.if-low-load.false

@@ -1,0 +1,10 @@
+-- `figure::rates::is_formula` meets its contract. Assumes nothing.
+use mathlib.Core.Path.{◌∙◌, ap}
+use lib.Dec.{leb}
+use Prim.Native.Nat.{ℕ}
+use Rattle.figure.proofs.ByRate.{key_formula}
+use borrow.Author.Rules.{rules}
+use Rattle.figure.proofs.rates.is_formula.Goals as goal
+
+pub returns : goal.returns
+returns c = ap (λ (k : ℕ). leb k 70536) c.key_of.ensures ∙ key_formula c.args.number c.requires

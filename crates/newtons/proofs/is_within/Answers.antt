@@ -1,0 +1,12 @@
+-- `newtons::is_within` meets its contract: the magnitude is that of the number handed over. Assumes nothing.
+use mathlib.Core.Path.{◌∙◌, ap}
+use Prim.Native.Nat.{ℕ}
+use lib.Dec.{leb}
+use mir.Syntax.{w64}
+use mir.Facts.{to_z-of_z}
+use Rattle.newtons.specs.Effect.{magnitude_of, limit}
+use borrow.Author.Rules.{rules}
+use Rattle.newtons.proofs.is_within.Goals as goal
+
+pub returns : goal.returns
+returns c = ap (λ (n : ℕ). leb n limit) (c.magnitude.ensures ∙ ap magnitude_of (to_z-of_z {w = w64} c.ranges.newtons))

@@ -1,0 +1,149 @@
+-- `newtons::value_of` meets its contract: each way out is one law of values, at the fields of the bits. Assumes nothing.
+use mathlib.Core.Path.{◌≡◌, sym, ◌∙◌, ap, subst}
+use mathlib.Core.Bool.{true, false}
+use Prim.Native.Nat.{ℕ, zero, suc, ◌+◌, ◌-◌, ◌*◌, ◌/◌, ◌%◌, ◌^◌, ◌≤◌, ◌<◌}
+use native.Mathlib.Nat.{one-mul, div-le_self, lt_of_le_of_lt, lt_of_lt_of_le}
+use native.Mathlib.Omega.{arith}
+use lib.Dec.{leb, lit<, lit≤}
+use lib.Pow.{pow_pos, shl_exact}
+use lib.IntN.{ℤ, pos, neg_ℤ, ◌-ℤ◌, +ℤ_idl}
+use lib.Ieee.{binary64, to_bits}
+use mir.Syntax.{w64}
+use mir.Val.{SFits, to_z}
+use mir.ValLaws.{to_z-of_z, to_z_pos}
+use borrow.Author.Rules.{rules}
+use borrow.Author.Tests.{le-leb, lt-leb}
+use Rattle.refusal.specs.Refusal.{number_of}
+use Rattle.refusal.specs.Said.{gives}
+use Rattle.newtons.specs.Effect.{signed, itself, said_held}
+use Rattle.newtons.proofs.Values.{Is, Fields, fields_of, not_nan, nan_value, zero_value, below_one, infinite, large_value, large_size, fraction_value, whole_value}
+use Rattle.newtons.proofs.Limits.{held_none, held_large, held_whole, held_signed}
+use Rattle.newtons.proofs.value_of.Goals as goal
+use Rattle.newtons.proofs.value_of.Goals.{Else-exponent-gt1075, Else-units-one-gt0, Start}
+
+abbrev bits : Start → ℕ
+bits c = to_bits binary64 c.args.x
+
+fields : (c : Start) → Fields c.args.x (leb (2 ^ 63) (bits c)) (bits c % 2 ^ 63 / 2 ^ 52) (bits c % 2 ^ 52)
+fields c = fields_of c.args.x (search rules)
+
+-- the code's 1 << k
+one-is : (k : ℕ) → k < 64 → 1 * 2 ^ k % 2 ^ 64 ≡ 2 ^ k
+one-is k h = shl_exact 1 k 64 (lit< tt) (omega arith) ∙ one-mul (2 ^ k)
+
+one-positive : (k : ℕ) → k < 64 → 0 < 1 * 2 ^ k % 2 ^ 64
+one-positive k h = rw one-is (pow_pos k)
+
+-- both fields are 0 only where the bits but the sign are
+not_zero : (b : ℕ) → (b % 2 ^ 63 ≡ 0 → ⊥) → b % 2 ^ 63 / 2 ^ 52 ≡ 0 → b % 2 ^ 52 ≡ 0 → ⊥
+not_zero b h p q = h (go b p q)
+  where
+    go : (b : ℕ) → b % 2 ^ 63 / 2 ^ 52 ≡ 0 → b % 2 ^ 52 ≡ 0 → b % 2 ^ 63 ≡ 0
+    go b p q = omega arith
+
+-- a size below 2^53 as a signed number
+positive-is : (n : ℕ) → n < 2 ^ 53 → to_z w64 n ≡ pos n
+positive-is n h = to_z_pos w64 n (lt_of_lt_of_le h (lit≤ tt))
+
+negative-is : (n : ℕ) → n < 2 ^ 53 → pos 0 -ℤ to_z w64 n ≡ neg_ℤ (pos n)
+negative-is n h = ap (λ (z : ℤ). pos 0 -ℤ z) (positive-is n h) ∙ +ℤ_idl (neg_ℤ (pos n))
+
+negative_fits : (n : ℕ) → n < 2 ^ 53 → SFits w64 (pos 0 -ℤ to_z w64 n)
+negative_fits n h = subst (λ (z : ℤ). SFits w64 z) (sym (negative-is n h)) (go n h)
+  where
+    go : (n : ℕ) → n < 2 ^ 53 → SFits w64 (neg_ℤ (pos n))
+    go zero h = record { sfits = lit< tt }
+    go (suc n) h = record { sfits = omega (arith, h) }
+
+pub returns-then-x : goal.returns-then-x
+unfolding said_held number_of
+returns-then-x c = sym (held_none (nan_value c.args.x c.if-x.true))
+
+pub float_to_bits-bits : goal.float_to_bits-bits
+float_to_bits-bits c = not_nan c.args.x c.if-x.false
+
+pub returns-then-unsigned-eq0 : goal.returns-then-unsigned-eq0
+unfolding said_held number_of
+returns-then-unsigned-eq0 c =
+    sym (held_whole (zero_value (fields (goal.at.returns-then-unsigned-eq0 c).Start) (omega (arith, c.if-unsigned-eq0.true)) (omega (arith, c.if-unsigned-eq0.true))) (lit< tt))
+
+pub returns-then-exponent-lt1023 : goal.returns-then-exponent-lt1023
+unfolding said_held number_of
+returns-then-exponent-lt1023 c =
+    let t = (goal.at.returns-then-exponent-lt1023 c).Start in
+    sym (held_none (below_one (fields t) (not_zero (bits t) c.if-unsigned-eq0.false) c.if-exponent-lt1023.true))
+
+pub returns-then-exponent-eq2047 : goal.returns-then-exponent-eq2047
+unfolding said_held number_of
+returns-then-exponent-eq2047 c = sym (held_none (infinite (fields (goal.at.returns-then-exponent-eq2047 c).Start) c.if-exponent-eq2047.true))
+
+pub returns-then-exponent-gt1075 : goal.returns-then-exponent-gt1075
+unfolding said_held number_of
+returns-then-exponent-gt1075 c =
+    sym (held_large (large_value (fields (goal.at.returns-then-exponent-gt1075 c).Start) c.if-exponent-gt1075.true c.if-exponent-eq2047.false) (large_size _ _ (omega (arith, c.if-exponent-gt1075.true))))
+
+pub nonzero_rem-units-2 : goal.nonzero_rem-units-2
+nonzero_rem-units-2 c = one-positive _ (omega arith)
+
+-- past the tests of the exponent
+module _ (c : Else-exponent-gt1075) where
+  abbrev start : Start
+  start = c.before.before.before.before.before
+
+  abbrev exponent : ℕ
+  exponent = bits start % 2 ^ 63 / 2 ^ 52
+
+  above : 0 < exponent
+  above = omega (arith, c.if-exponent-lt1023.false)
+
+  upto : exponent ≤ 1075
+  upto = c.if-exponent-gt1075.false
+
+  one : 1 * 2 ^ (1075 - exponent) % 2 ^ 64 ≡ 2 ^ (1075 - exponent)
+  one = one-is (1075 - exponent) (omega (arith, c.if-exponent-lt1023.false))
+
+pub returns-then-units-one-gt0 : goal.returns-then-units-one-gt0
+unfolding said_held number_of
+returns-then-units-one-gt0 c =
+    let t = (goal.at.returns-then-units-one-gt0 c).Else-exponent-gt1075 in
+    sym (held_none (fraction_value (fields (start t)) (above t) (upto t) (one t) (λ q. omega (arith, c.if-units-one-gt0.true))))
+
+-- the size is whole, and below 2^53
+module _ (c : Else-units-one-gt0) where
+  abbrev size : ℕ
+  size = (2 ^ 52 + bits (start c.before) % 2 ^ 52) / (1 * 2 ^ (1075 - exponent c.before) % 2 ^ 64)
+
+  is : Is (start c.before).args.x (leb (2 ^ 63) (bits (start c.before))) size
+  is = whole_value (fields (start c.before)) (above c.before) (upto c.before) (one c.before) (omega (arith, c.if-units-one-gt0.false))
+
+  small : size < 2 ^ 53
+  small = lt_of_le_of_lt (div-le_self (2 ^ 52 + bits (start c.before) % 2 ^ 52) _) (omega arith)
+
+  size_fits : SFits w64 (pos size)
+  size_fits = record { sfits = lt_of_lt_of_le small (lit≤ tt) }
+
+pub nonzero_div-size : goal.nonzero_div-size
+nonzero_div-size c = one-positive _ (omega arith)
+
+pub overflow_cast-result : goal.overflow_cast-result
+overflow_cast-result c = size_fits (goal.at.overflow_cast-result c).Else-units-one-gt0
+
+pub overflow_sub-result : goal.overflow_sub-result
+overflow_sub-result c = negative_fits _ (small (goal.at.overflow_sub-result c).Else-units-one-gt0)
+
+pub returns-then-bits-ge9223372036854775808 : goal.returns-then-bits-ge9223372036854775808
+unfolding signed said_held
+returns-then-bits-ge9223372036854775808 c =
+    let t = (goal.at.returns-then-bits-ge9223372036854775808 c).Else-units-one-gt0 in
+    let l = small t in
+    ap (λ (z : ℤ). gives (itself z)) (to_z-of_z w64 _ (negative_fits _ l) ∙ negative-is _ l) ∙ sym (held_signed (is t) l true (le-leb _ _ c.if-bits-ge9223372036854775808.true))
+
+pub overflow_cast-result-2 : goal.overflow_cast-result-2
+overflow_cast-result-2 c = size_fits (goal.at.overflow_cast-result-2 c).Else-units-one-gt0
+
+pub returns : goal.returns
+unfolding signed said_held
+returns c =
+    let t = (goal.at.returns c).Else-units-one-gt0 in
+    let l = small t in
+    ap (λ (z : ℤ). gives (itself z)) (positive-is _ l) ∙ sym (held_signed (is t) l false (lt-leb _ _ c.if-bits-ge9223372036854775808.false))

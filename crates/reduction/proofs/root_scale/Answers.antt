@@ -1,0 +1,25 @@
+-- `reduction::root_scale` meets its contract. Assumes nothing.
+use mathlib.Core.Path.{◌≡◌, ◌∙◌, sym}
+use native.Mathlib.Omega.{arith}
+use Rattle.reduction.specs.declared.share.Share.TheVariants.{Root}
+use Rattle.reduction.specs.Share.{formula_share}
+use Rattle.reduction.specs.Scale.{share_scale, scale_of}
+use Rattle.reduction.proofs.Fits.{formula_fits, fit_root}
+use borrow.Author.Rules.{rules}
+use Rattle.reduction.proofs.root_scale.Goals as goal
+use Rattle.reduction.proofs.root_scale.Goals.{In-Root}
+
+-- the share is the root
+root : (c : In-Root) → formula_share c.args.floors c.args.x ≡ Root c.in-Root.y
+root c = sym c.formula_share-formula.ensures ∙ c.in-Root.is
+
+pub rounded_down-requires : goal.rounded_down-requires
+rounded_down-requires c = omega (arith, fit_root (formula_fits _ _) (root (goal.at.rounded_down-requires c).In-Root))
+
+pub returns-in-Twentieths : goal.returns-in-Twentieths
+unfolding scale_of share_scale
+returns-in-Twentieths c = (rw (sym c.formula_share-formula.ensures ∙ c.in-Twentieths.is), omega arith)
+
+pub returns-in-Root : goal.returns-in-Root
+unfolding scale_of share_scale
+returns-in-Root c = rw (root (goal.at.returns-in-Root c).In-Root) c.rounded_down.ensures
