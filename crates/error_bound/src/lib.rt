@@ -1,5 +1,6 @@
 // The figure after a whole list of entries, with demand 3 of the paper.
 #![tactic(auto)]
+
 ghost use Rattle.std.specs.Prelude.{◌≡◌, ◌≤◌, ◌<◌};
 ghost use Rattle.column.specs.Accepted.{accepted};
 ghost use Rattle.column.specs.Column.{member_of, after, Reached};

@@ -3,6 +3,7 @@ pub mod AskedExamples
 pub mod Carried
 pub mod Order
 pub mod HeldLines
+pub mod Marked
 pub mod ByRate
 pub mod Shares
 pub mod Most

@@ -87,7 +87,7 @@ module _ {m : Member} {count : ℕ} {places : List ℕ} where
     -- at the end of the lines the table has every floor
     pub all_passed : d.lines ≡ count → passed_to c d.floor ≡ workings_of c 64
     all_passed e =
-        passed_over c (64 - d.floor) d.floor 64 (omega (arith, h.floor-most)) (omega arith) (λ f low high. none_at f low (λ k. absurd (omega arith)))
+        passed_over c (64 - d.floor) d.floor 64 (omega (arith, h.floor_most)) (omega arith) (λ f low high. none_at f low (λ k. absurd (omega arith)))
         ∙ passed_all c
 
     -- and the figure is that of all lines
@@ -129,7 +129,7 @@ module _ {m : Member} {count : ℕ} {places : List ℕ} where
                 floor_most = rw at (held_at h.sound.held d.lines k).floor.1;
                 above = rw (at, front) (all_append (above_at h.sound.held h.ordered d.lines k) (more (omega arith) same));
                 next = after;
-                floors_most = omega (arith, ap (λ (s : Shares). s.floors) shares, h.floors-most, e.low);
+                floors_most = omega (arith, ap (λ (s : Shares). s.floors) shares, h.floors_most, e.low);
                 shares = shares ∙ rw (area.is, ← area_total (lines_before places n.lines), floors);
                 area = area;
                 figure = figure;
@@ -154,5 +154,5 @@ module _ {m : Member} {count : ℕ} {places : List ℕ} where
     next_put e =
         let f = n.floor - 1 in
         let at : suc f ≡ n.floor = omega (arith, lower) in
-        let over = passed_over (c h) (f - d.floor) d.floor f (omega (arith, lower)) (omega (arith, q.descended.floor-most)) (λ i low high. none_at h i low (λ k. omega (arith, lower, q.floor))) in
-        rw (e, over) (passed_put (c h) f (omega (arith, q.descended.floor-most)) (rw at (numbers_here q.descended has)) ∙ ap (passed_to (c h)) at)
+        let over = passed_over (c h) (f - d.floor) d.floor f (omega (arith, lower)) (omega (arith, q.descended.floor_most)) (λ i low high. none_at h i low (λ k. omega (arith, lower, q.floor))) in
+        rw (e, over) (passed_put (c h) f (omega (arith, q.descended.floor_most)) (rw at (numbers_here q.descended has)) ∙ ap (passed_to (c h)) at)

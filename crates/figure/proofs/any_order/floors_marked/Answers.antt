@@ -16,32 +16,10 @@ use Rattle.column.specs.inner.Sound.{InLimits, lines_between}
 use Rattle.column.proofs.Lines.{between_none, between_next}
 use Rattle.figure.specs.Carried.{has_floor, floors_of}
 use Rattle.figure.proofs.HeldLines.{room, held_at}
+use Rattle.figure.proofs.Marked.{Found, found_none, found_more}
 use borrow.Author.Rules.{rules}
 use Rattle.figure.proofs.any_order.floors_marked.Goals as goal
 use Rattle.figure.proofs.any_order.floors_marked.Goals.{After-line_at-at}
-
--- what was found of some lines: how many floors they have, with a mark at each
-record Found (ls : List Line) (seen : List Bool) (n : ℕ) : Type 0 where
-  distinct : n ≡ floors_of ls
-  size : length seen ≡ 65
-  marks : (k : ℕ) → k < 65 → get_or seen k false ≡ has_floor k ls
-
-found_none : Found [] (replicate 65 false) 0
-unfolding floors_of has_floor some
-found_none = record { distinct = refl; size = length-replicate 65 false; marks = λ k h. get_or-replicate 65 k false false h }
-
-found-more : {ls : List Line} {seen : List Bool} {n : ℕ} (l : Line) → l.floor ≤ 64 → Found ls seen n
-    → Found (l ∷ ls) (set seen l.floor true) (n + cond (get_or seen l.floor false) 0 1)
-unfolding floors_of has_floor some
-found-more {ls} {seen} {n} l h c =
-    record {
-      distinct = rw (c.marks l.floor (omega arith), c.distinct) (add_comm (floors_of ls) _);
-      size = length-set seen l.floor true ∙ c.size;
-      marks = λ k q.
-          cases (λ (b : Bool). get_or (set seen l.floor true) k false ≡ (b || has_floor k ls)) (eqb l.floor k)
-          (λ e. rw (← eqb-true l.floor k e) (get_or-set_same seen l.floor true false (omega (arith, c.size))))
-          (λ e. get_or-set_other seen l.floor k true false (λ w. eqb-false l.floor k e (sym w)) ∙ c.marks k q);
-    }
 
 -- the line at hand is within its limits
 line_known : (c : After-line_at-at) → InLimits c.line_at-at.result
@@ -73,7 +51,7 @@ loop-i-preserved c =
       omega arith,
       omega (arith, c.one_if_unseen-floors.ensures.1),
       rw (between_next c.args.held.now (c.loop-i.i - 1) c.args.end (omega arith) (room c.requires), next, ← c.line_at-at.ensures, c.one_if_unseen-floors.ensures.0)
-          (found-more c.line_at-at.result (line_known (goal.at.loop-i-preserved c).After-line_at-at).floor.1 c.loop-i.invariant.2),
+          (found_more c.line_at-at.result (line_known (goal.at.loop-i-preserved c).After-line_at-at).floor.1 c.loop-i.invariant.2),
     )
 
 pub returns : goal.returns

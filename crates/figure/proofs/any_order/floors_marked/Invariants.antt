@@ -15,7 +15,7 @@ use Rattle.column.specs.declared.Line.{Line}
 use Rattle.column.specs.inner.Sound.{InLimits, lines_between}
 use Rattle.column.proofs.Lines.{between_none, between_next}
 use Rattle.figure.specs.Carried.{has_floor, floors_of}
-use Rattle.figure.proofs.HeldLines.{room, held_at}
+use Rattle.figure.proofs.Marked.{Found}
 use borrow.Author.Rules.{rules}
 use Rattle.figure.proofs.any_order.floors_marked.Given as goal
 

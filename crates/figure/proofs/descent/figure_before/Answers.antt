@@ -2,7 +2,6 @@
 use mathlib.Core.Path.{subst}
 use Prim.Native.Nat.{ℕ}
 use native.Mathlib.Omega.{arith}
-use borrow.Author.Tests.{ltb-true, eqb-true}
 use Rattle.column.specs.declared.Line.{Line}
 use Rattle.figure.specs.inner.Totals.{SumOf}
 use Rattle.figure.proofs.HeldLines.{room, sum_join}
@@ -13,6 +12,6 @@ use Rattle.figure.proofs.descent.figure_before.Goals as goal
 pub returns-then-before-here : goal.returns-then-before-here
 returns-then-before-here c =
     let above = c.args.above in
-    let same = figure_kept above.shares c.args.here c.requires.3 c.requires.4 c.if-before-ge2.true c.requires.5 (ltb-true 0 c.args.here.clamped c.if-here-gt0.true) (eqb-true above.shares.clamped c.args.here.clamped c.if-before-here.true) in
+    let same = figure_kept above.shares c.args.here c.requires.3 c.requires.4 c.if-before-ge2.true c.requires.5 c.if-here-gt0.true c.if-before-here.true in
     sum_join (omega arith) c.requires.2 (room c.requires.0)
     (subst (λ (g : Line → ℕ). SumOf g 10000000000 c.args.held.now 0 above.lines above.figure) same c.requires.1) c.figure_between.ensures

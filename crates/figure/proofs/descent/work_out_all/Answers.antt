@@ -23,7 +23,7 @@ pub put_working-requires : goal.put_working-requires
 put_working-requires c =
     let l = c.loop-here in
     let n = c.next_floor-here.ensures in
-    (ap length l.invariant.1 ∙ passed_length _ l.here.floor l.invariant.0.floor-most, omega (arith, lower l.invariant.0 n), n.descended.floor-most)
+    (ap length l.invariant.1 ∙ passed_length _ l.here.floor l.invariant.0.floor_most, omega (arith, lower l.invariant.0 n), n.descended.floor_most)
 
 pub loop-here-smaller : goal.loop-here-smaller
 loop-here-smaller c = let n = c.next_floor-here.ensures in omega (arith, n.some, n.descended.few)

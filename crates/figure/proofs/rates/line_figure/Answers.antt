@@ -32,16 +32,16 @@ formula_load-requires c =
 
 -- both products are the line's figure
 first : (c : After-formula_load)
-    → let c.before.before.before = c.line_of-line.result in
-    let p = c.formula_load.result * c.?area.0 in
-    (p ≡ figure_by c.args.shares c.before.before.before) × (p ≤ 10000000000)
+    → let l = c.line_of-line.result in
+    let p = c.formula_load.result * l.area.0 in
+    (p ≡ figure_by c.args.shares l) × (p ≤ 10000000000)
 first c =
     figure_formula c.args.shares c.line_of-line.result (line_known c.before.before.before) (formula c.before) c.formula_load.ensures
 
 second : (c : After-other_times)
-    → let c.before.before.before = c.line_of-line.result in
-    let p = (c.?load * c.other_times.result + 63753436) / 67108864 * c.?area.0 in
-    (p ≡ figure_by c.args.shares c.before.before.before) × (p ≤ 10000000000)
+    → let l = c.line_of-line.result in
+    let p = (l.load * c.other_times.result + 63753436) / 67108864 * l.area.0 in
+    (p ≡ figure_by c.args.shares l) × (p ≤ 10000000000)
 second c =
     figure_other c.args.shares c.line_of-line.result (line_known c.before.before.before) (other c.before) (rw c.line_of-line.ensures c.other_times.ensures)
 
