@@ -17,7 +17,7 @@ pub returns-then-opened-ne0 : goal.returns-then-opened-ne0
 unfolding said_working
 returns-then-opened-ne0 c =
     let m = member_of c.args.code in
-    let n = ap (λ (o : Outcome). o.number) (goal.at.returns-then-opened-ne0 c).After-open-opened.«open».ensures.0 in
+    let n = ap (λ (o : Outcome). o.number) c.open-opened.ensures.0 in
     let es = entries_of c.args.entries.now in
     let h = positive c.if-opened-ne0.true in
     record {
@@ -26,11 +26,11 @@ returns-then-opened-ne0 c =
     }
 
 pub entered_all-entered-requires : goal.entered_all-entered-requires
-entered_all-entered-requires c = (goal.at.entered_all-entered-requires c).After-open-opened.«open».ensures.1 c.if-opened-ne0.false
+entered_all-entered-requires c = c.open-opened.ensures.1 c.if-opened-ne0.false
 
 pub returns : goal.returns
 returns c =
-    let opened = (goal.at.returns c).After-open-opened.«open».ensures.0 in
+    let opened = c.open-opened.ensures.0 in
     let m = member_of c.args.code in
     let es = entries_of c.args.entries.now in
     let none = sym (ap (λ (o : Outcome). o.number) opened) ∙ c.if-opened-ne0.false in
