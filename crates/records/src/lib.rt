@@ -1,5 +1,6 @@
 // The list call: the figure of a lent list of line records, or the number and place of the first refusal.
 #![tactic(auto)]
+
 ghost use Rattle.std.specs.Prelude.{◌≡◌};
 ghost use Rattle.column.specs.Column.{member_of};
 ghost use Rattle.figure.specs.Asked.{said_working};
