@@ -1,4 +1,4 @@
--- Why reading from a descriptor stopped.
+-- Why reading from a reader stopped.
 -- Assumes nothing.
 use Rattle.std.specs.Prelude.{Bool, true, false}
 use Rattle.input.specs.declared.Ending.{Ending}
@@ -8,4 +8,4 @@ use Rattle.input.specs.declared.Ending.TheVariants.{Full, Ended, Failed}
 unfoldable pub is_full : Ending → Bool
 is_full Full = true
 is_full Ended = false
-is_full Failed = false
+is_full (Failed error) = false

@@ -1,0 +1,17 @@
+-- `input::read_from` meets its contract: the count is the buffer's length where the loop ends by itself, and below it else. Assumes nothing.
+use Rattle.std.proofs.Common.{arith, sym, eq-eqb}
+use borrow.Author.Tests.{ne_eqb}
+use Rattle.input.specs.Ending.{is_full}
+use Rattle.input.proofs.read_from.Goals as goal
+
+pub returns-in-Ok-eq0-clause-ending_value : goal.returns-in-Ok-eq0-clause-ending_value
+unfolding is_full
+returns-in-Ok-eq0-clause-ending_value g c = sym (ne_eqb _ _ (λ q. omega (arith, q)))
+
+pub returns-in-Err-clause-ending_value : goal.returns-in-Err-clause-ending_value
+unfolding is_full
+returns-in-Err-clause-ending_value g c = sym (ne_eqb _ _ (λ q. omega (arith, q)))
+
+pub returns-clause-ending_value : goal.returns-clause-ending_value
+unfolding is_full
+returns-clause-ending_value g c = sym (eq-eqb _ _ (omega arith))
