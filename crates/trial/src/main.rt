@@ -1,12 +1,15 @@
 // Answers questions about factors, reduced loads and columns, one a line of standard input: a word,
 // then numbers. Its stored output is the second reckoning's.
 #![tactic(auto)]
+
+ghost use Rattle.std.specs.Prelude.{◌≤◌, IfOk, length};
 ghost use Rattle.column.specs.Column.{Reached};
 
 use crate::columns::State;
-use libc::{STDERR_FILENO, STDIN_FILENO};
 use reduction::InfluenceArea;
 use refusal::Answer;
+use std::io;
+use std::io::Read;
 
 mod columns;
 mod numbers;
@@ -56,9 +59,23 @@ struct Question {
     numbers: [u64; 4],
 }
 
+// The place of the first such byte from a place on; the end of the text where there is none.
+fn end_of(text: &[u8], from: usize, byte: u8) -> usize
+    requires { from ≤ length text.now }
+    ensures low { from ≤ result }
+    ensures high { result ≤ length text.now }
+{
+    for at in from..text.len() {
+        if text[at] == byte {
+            return at;
+        }
+    }
+    text.len()
+}
+
 // Reads a line.
 fn read_question(line: &[u8]) -> Question {
-    let blank = bytes::scan::find(line, 0, line.len(), b' ');
+    let blank = end_of(line, 0, b' ');
     if line.len() <= blank {
         return Question {
             kind: Kind::Nothing,
@@ -91,46 +108,46 @@ fn reduced_load(n: [u64; 4]) -> Answer {
 }
 
 // Answers one line; a line that asks nothing is `unread`.
-fn answer(state: State, line: &[u8]) -> State
+fn answer(rt: &impl Print, state: State, line: &[u8]) -> io::Result<State>
     requires { Reached state.column }
-    ensures { Reached result.column }
+    ensures { IfOk result (λ s. Reached s.column) }
 {
     let asked = read_question(line);
     let n = asked.numbers;
     let kind = asked.kind;
     match kind {
-        Kind::Factor => print::print_answer(b"factor=", member::factor(n[0])),
-        Kind::Reduced => print::print_answer(b"reduced=", reduced_load(n)),
-        Kind::Open => return columns::open(state, n[0]),
-        Kind::Enter => return columns::enter(state, n[0], n[1], n[2], n[3]),
-        Kind::Ask => columns::ask(state, n[0]),
-        Kind::List => columns::list(state, n[0], n[1]),
-        Kind::Nothing => print::unread(),
+        Kind::Factor => print::print_answer(rt, "factor", member::factor(n[0]))?,
+        Kind::Reduced => print::print_answer(rt, "reduced", reduced_load(n))?,
+        Kind::Open => return columns::open(rt, state, n[0]),
+        Kind::Enter => return columns::enter(rt, state, n[0], n[1], n[2], n[3]),
+        Kind::Ask => columns::ask(rt, state, n[0])?,
+        Kind::List => columns::list(rt, state, n[0], n[1])?,
+        Kind::Nothing => print::unread(rt)?,
     }
-    state
+    Ok(state)
 }
 
 // Answers every line of a text, the last with or without its newline. Before the first opening
 // there is an interior column without lines.
-fn answer_all(text: &[u8]) {
+fn answer_all(rt: &impl Print, text: &[u8]) -> io::Result<()> {
     let first = column::open(1);
     let column = first.column;
     let mut state = columns::state_of(column, 1);
     let mut at = 0;
     while at < text.len() {
-        let end = bytes::scan::find(text, at, text.len(), b'\n');
-        state = answer(state, &text[at..end]);
+        let end = end_of(text, at, b'\n');
+        state = answer(rt, state, &text[at..end])?;
         at = end + 1;
     }
+    Ok(())
 }
 
 // Reads all questions, then answers them.
-fn main() {
-    let mut text = [0u8; ROOM];
-    let n = io::read_full(STDIN_FILENO, &mut text);
-    if n == ROOM {
-        io::write_all(STDERR_FILENO, b"trial: too many questions\n");
-        return;
+fn main(rt: HostRuntime) -> io::Result<()> {
+    let mut text = Vec::new(rt.alloc());
+    rt.stdin().read_to_end(&mut text)?;
+    if text.len() >= ROOM {
+        return eprintln!(rt; "trial: too many questions");
     }
-    answer_all(&text[..n]);
+    answer_all(&rt, &text)
 }

@@ -1,69 +1,52 @@
 // Prints answers to standard output, a line each.
 use error_bound::AfterList;
 use figure::Asked;
-use libc::STDOUT_FILENO;
 use refusal::Answer;
-
-// Prints a name and a number.
-pub fn print(name: &[u8], number: u64) {
-    io::write_all(STDOUT_FILENO, name);
-    io::print_decimal(STDOUT_FILENO, number);
-}
-
-// Ends a line.
-pub fn end_line() {
-    io::write_all(STDOUT_FILENO, b"\n");
-}
+use std::io;
 
 // A line that asks nothing.
-pub fn unread() {
-    io::write_all(STDOUT_FILENO, b"unread\n");
+pub fn unread(rt: &impl Print) -> io::Result<()> {
+    println!(rt; "unread")
 }
 
-// Prints the number of a refusal.
-fn print_refused(number: u64) {
-    print(b"refused=", number);
-}
-
-// Prints what a call gave under its name, or the number of its refusal, and ends the line.
-pub fn print_answer(name: &[u8], answer: Answer) {
+// Prints what a call gave under its name, or the number of its refusal.
+pub fn print_answer(rt: &impl Print, name: &str, answer: Answer) -> io::Result<()> {
     match answer {
-        Answer::Gives(n) => print(name, n),
-        Answer::Refused(refusal) => print_refused(refusal::number(refusal)),
+        Answer::Gives(n) => println!(rt; "{name}={n}"),
+        Answer::Refused(refusal) => println!(rt; "refused={}", refusal::number(refusal)),
     }
-    end_line();
 }
 
-// Prints the number of opening or entering, 0 where it is not refused, and ends the line.
-pub fn print_number(number: u64) {
-    print(b"number=", number);
-    end_line();
+// Prints the number of opening or entering, 0 where it is not refused.
+pub fn print_number(rt: &impl Print, number: u64) -> io::Result<()> {
+    println!(rt; "number={number}")
 }
 
 // Prints n, X and the figure, or the number of the refusal.
-fn print_working(asked: Asked) {
+fn print_working(rt: &impl Print, asked: Asked) -> io::Result<()> {
     match asked {
         Asked::Gives(working) => {
-            print(b"floors=", working.floors);
-            print(b" influence=", working.influence.0);
-            print(b" figure=", working.figure);
+            let floors = working.floors;
+            let influence = working.influence.0;
+            let figure = working.figure;
+            print!(rt; "floors={floors} influence={influence} figure={figure}")
         }
-        Asked::Refused(number) => print_refused(number),
+        Asked::Refused(number) => print!(rt; "refused={number}"),
     }
 }
 
 // Prints what asking at a floor gave, and ends the line.
-pub fn print_asked(asked: Asked) {
-    print_working(asked);
-    end_line();
+pub fn print_asked(rt: &impl Print, asked: Asked) -> io::Result<()> {
+    print_working(rt, asked)?;
+    println!(rt; "")
 }
 
 // Prints what asking after a list gave and which of its entries were refused, and ends the line.
-pub fn print_after(answer: AfterList) {
-    let asked = answer.asked;
-    print_working(asked);
-    print(b" refusals=", answer.refusals.count);
-    print(b" first=", answer.refusals.number);
-    print(b" place=", answer.refusals.place);
-    end_line();
+pub fn print_after(rt: &impl Print, answer: AfterList) -> io::Result<()> {
+    print_working(rt, answer.asked)?;
+    let refusals = answer.refusals;
+    let count = refusals.count;
+    let number = refusals.number;
+    let place = refusals.place;
+    println!(rt; " refusals={count} first={number} place={place}")
 }
