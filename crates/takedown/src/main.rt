@@ -6,7 +6,8 @@ ghost use Rattle.sheet.specs.Sheet.{longest};
 ghost use Rattle.report.specs.Report.{report_of};
 
 use input::Ending;
-use libc::{STDERR_FILENO, STDIN_FILENO, STDOUT_FILENO};
+use std::env::{Env, FillError};
+use std::io::{IsTerminal, Write};
 
 // One byte more than a sheet may have, which tells a longer text from it.
 const ROOM: usize = sheet::LONGEST + 1;
@@ -25,42 +26,42 @@ fn put_printed(buffer: &[u8], count: usize, out: &mut [u8; report::ROOM]) -> usi
     report::put_refusal(reported.number, reported.line, out)
 }
 
+// Whether words stand behind the program's name on its command line.
+fn has_words(rt: &impl Env) -> bool {
+    let mut word = [0u8; 1];
+    !matches!(rt.arg(1, &mut word), Err(FillError::NotPresent))
+}
+
 // Says how the program is used, to whoever gives it words on its command line.
-fn say_usage() {
-    io::write_all(
-        STDERR_FILENO,
-        b"usage: takedown < SHEET\nIt reads a sheet from standard input, and takes no arguments.\n",
-    );
+fn say_usage(rt: &impl Eprint) {
+    let _ = eprintln!(rt; "usage: takedown < SHEET");
+    let _ = eprintln!(rt; "It reads a sheet from standard input, and takes no arguments.");
 }
 
 // Says what is awaited, to whoever sits at a terminal.
-fn say_awaited() {
-    io::write_all(
-        STDERR_FILENO,
-        b"takedown: type a sheet, and end it by Ctrl-D at the start of a line\n",
-    );
+fn say_awaited(rt: &impl Eprint) {
+    let _ = eprintln!(rt; "takedown: type a sheet, and end it by Ctrl-D at the start of a line");
 }
 
 // Reads, reports and writes; what fails is said on standard error. With words on the command line nothing
 // is read.
-fn main() {
-    if os::arg_count() > 1 {
-        say_usage();
+fn main(rt: HostRuntime) {
+    if has_words(&rt) {
+        say_usage(&rt);
         return;
     }
-    if libc::isatty(STDIN_FILENO) == 1 {
-        say_awaited();
+    if rt.stdin().is_terminal() {
+        say_awaited(&rt);
     }
     let mut text = [0u8; ROOM];
-    let input = input::read_from(STDIN_FILENO, &mut text);
-    let ending = input.ending;
-    if let Ending::Failed = ending {
-        os::fail(b"takedown: reading standard input");
+    let input = input::read_from(&mut rt.stdin(), &mut text);
+    if let Ending::Failed(error) = input.ending {
+        let _ = eprintln!(rt; "takedown: reading standard input: {error}");
         return;
     }
     let mut out = [0u8; report::ROOM];
     let size = put_printed(&text, input.count, &mut out);
-    if !io::write_all(STDOUT_FILENO, &out[..size]) {
-        os::fail(b"takedown: writing standard output");
+    if let Err(error) = rt.stdout().write_all(&out[..size]) {
+        let _ = eprintln!(rt; "takedown: writing standard output: {error}");
     }
 }
