@@ -77,6 +77,7 @@ pub fn govern(newtons: Newtons) -> Governed
 }
 
 // The effect of a load, as it came.
+#[tactic(auto, unfolding(crate::specs::Combine::effect_for))]
 fn effect_for(effects: Effects, load: Load) -> LoadEffect
     ensures { result ≡ effect_for effects load }
 {
@@ -96,6 +97,7 @@ fn effect_for(effects: Effects, load: Load) -> LoadEffect
 }
 
 // What governs, a refusal with the effect as it came.
+#[tactic(auto, unfolding(crate::specs::Combine::said_governed, crate::specs::Combine::with_double, crate::specs::Combine::said_combined, refusal::specs::Refusal::number_of))]
 fn with_double(effects: Effects, governed: Governed) -> Combined
     ensures { said_combined result ≡ with_double effects (said_governed governed) }
 {

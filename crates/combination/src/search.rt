@@ -179,6 +179,7 @@ fn row_of(best: Best) -> GoverningRow
 }
 
 // The effects in the order of the table's columns.
+#[tactic(auto, unfolding(effects::specs::Check::newtons_of))]
 pub fn listed_newtons(newtons: Newtons) -> [i64; 7]
     ensures { result ≡ newtons_of newtons }
 {

@@ -4,7 +4,6 @@ use Rattle.refusal.specs.Said.{gives}
 use Rattle.effects.specs.Check.{newtons_of, checked_of, said_checked}
 use Rattle.combination.specs.Combine.{with_double, combined, combined_of, said_combined}
 use Rattle.combination.proofs.Answers.{promised}
-use borrow.Author.Rules.{rules}
 use Rattle.combination.proofs.combine.Goals as goal
 use Rattle.combination.proofs.combine.Goals.{In-Whole}
 

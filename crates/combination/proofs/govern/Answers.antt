@@ -2,7 +2,7 @@
 use mathlib.Core.Path.{◌≡◌, refl, sym, ◌∙◌, ap, subst, subst⁻¹}
 use mathlib.Core.Bool.{Bool}
 use mathlib.Core.List.{List}
-use Prim.Native.Nat.{ℕ, ◌-◌, ◌≤◌, ◌<◌}
+use Prim.Native.Nat.{ℕ, ◌≤◌, ◌<◌}
 use native.Mathlib.Omega.{arith}
 use lib.IntN.{ℤ, pos, nat_abs}
 use lib.ListN.{length, get_or}
@@ -22,7 +22,7 @@ use Rattle.combination.specs.Combine.{governing, limited_from, governed, said_go
 use Rattle.combination.proofs.Governs.{below_more}
 use Rattle.combination.proofs.Answers.{rows_exact, first_beyond, newtons_governed}
 use borrow.Author.Rules.{rules}
-use borrow.Author.Tests.{leb-true, not-true, not-false}
+use borrow.Author.Tests.{leb-true}
 use Rattle.combination.proofs.govern.Goals as goal
 use Rattle.combination.proofs.govern.Goals.{After-loop-i}
 
@@ -46,7 +46,7 @@ unfolding said_governed number_of governed NothingLost
 returns-then-not-is_within c =
     let zs = c.listed_newtons-effects.result in
     let n = c.listed_newtons-effects.ensures in
-    let beyond = tested (get_or zs c.loop-i.i (pos 0)) (search rules) c.is_within.ensures (not-true _ c.if-not-is_within.true) in (
+    let beyond = tested (get_or zs c.loop-i.i (pos 0)) (search rules) c.is_within.ensures c.if-not-is_within.true in (
       ap (refused 9) c.load_at.ensures
           ∙ (sym (first_beyond loads zs (governing zs) c.loop-i.i Dead (omega arith) (omega (arith, ap {B = ℕ} length n)) c.loop-i.invariant.1 beyond)
           ∙ ap (λ (xs : List ℤ). limited_from loads xs (governing xs)) n),
@@ -56,7 +56,7 @@ returns-then-not-is_within c =
 pub loop-i-preserved : goal.loop-i-preserved
 loop-i-preserved c =
     let zs = c.listed_newtons-effects.result in
-    let in-limit = tested (get_or zs c.loop-i.i (pos 0)) (search rules) c.is_within.ensures (not-false _ c.if-not-is_within.false) in (
+    let in-limit = tested (get_or zs c.loop-i.i (pos 0)) (search rules) c.is_within.ensures c.if-not-is_within.false in (
       omega arith,
       λ k h. below_more c.loop-i.i (λ j. nat_abs (get_or zs j (pos 0)) ≤ limit) c.loop-i.invariant.1 (leb-true _ limit in-limit) k (omega arith),
     )

@@ -2,15 +2,14 @@
 -- Assumes nothing.
 use mathlib.Core.Path.{◌≡◌, sym, ◌∙◌, ap}
 use mathlib.Core.Bool.{Bool, cond}
-use Prim.Native.Nat.{suc, ◌+◌, ◌-◌, ◌≤◌}
+use Prim.Native.Nat.{suc, ◌+◌}
 use native.Mathlib.Omega.{arith}
 use lib.IntN.{pos}
-use lib.ListN.{length, get_or, drop}
+use lib.ListN.{get_or}
 use mir.Syntax.{w64}
 use mir.Val.{to_z, of_z}
 use mir.ValLaws.{to_z-of_z}
 use Rattle.combination.specs.inner.Sense.{sense}
-use Rattle.combination.specs.Governing.{best_from, best}
 use Rattle.combination.proofs.Governs.{best_end, best_first, best_turn}
 use borrow.Author.Rules.{rules}
 use Rattle.combination.proofs.search.best_of.Goals as goal
@@ -29,7 +28,7 @@ loop-i-preserved c =
     let v : to_z w64 (of_z w64 (get_or sums i (pos 0))) ≡ get_or sums i (pos 0) = to_z-of_z w64 (get_or sums i (pos 0)) (search rules) in (
       omega arith,
       omega arith,
-      best_turn beats sums i c.loop-i.found (omega arith) (to_z-of_z w64 c.loop-i.found.tenths (record { sfits = c.struct_told-1.given.1.0.1 })) v
+      best_turn beats sums i c.loop-i.found (omega arith) (to_z-of_z w64 c.loop-i.found.tenths (search rules)) v
           (c.better_of-found.ensures ∙ ap (λ (t : Bool). cond t (record { row = i + 1; tenths = to_z w64 (of_z w64 (get_or sums i (pos 0))) }) c.loop-i.found) c.beats.ensures)
           c.loop-i.invariant.2,
     )

@@ -1,18 +1,10 @@
 -- `combination::search::best_of` meets its contract: before index i, searching the sums from i on gives what the whole search gives.
 -- Assumes nothing.
-use mathlib.Core.Path.{◌≡◌, sym, ◌∙◌, ap}
-use mathlib.Core.Bool.{Bool, cond}
-use Prim.Native.Nat.{suc, ◌+◌, ◌-◌, ◌≤◌}
-use native.Mathlib.Omega.{arith}
-use lib.IntN.{pos}
-use lib.ListN.{length, get_or, drop}
-use mir.Syntax.{w64}
-use mir.Val.{to_z, of_z}
-use mir.ValLaws.{to_z-of_z}
+use mathlib.Core.Path.{◌≡◌}
+use Prim.Native.Nat.{suc, ◌-◌, ◌≤◌}
+use lib.ListN.{length, drop}
 use Rattle.combination.specs.inner.Sense.{sense}
 use Rattle.combination.specs.Governing.{best_from, best}
-use Rattle.combination.proofs.Governs.{best_end, best_first, best_turn}
-use borrow.Author.Rules.{rules}
 use Rattle.combination.proofs.search.best_of.Given as goal
 
 abbrev pub invariant-loop-i : goal.invariant-loop-i

@@ -13,7 +13,6 @@ use Rattle.combination.specs.Governing.{sums, best}
 use Rattle.combination.specs.Combine.{row_of, governing}
 use Rattle.combination.proofs.Governs.{less_order, greater_order}
 use Rattle.combination.proofs.Answers.{best_held}
-use borrow.Author.Rules.{rules}
 use Rattle.combination.proofs.search.governing_of.Goals as goal
 use Rattle.combination.proofs.search.governing_of.Goals.{After-best_of, After-best_of-2, After-listed_newtons}
 

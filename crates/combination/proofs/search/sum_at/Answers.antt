@@ -13,13 +13,13 @@ use borrow.Author.Rules.{rules}
 use Rattle.combination.proofs.search.sum_at.Goals as goal
 use Rattle.combination.proofs.search.sum_at.Goals.{Start}
 
-row_is : (c : Start) → get_or c.args.t1 c.args.i [] ≡ get_or factors c.args.i []
+row_is : (c : Start) → get_or c.args.table c.args.i [] ≡ get_or factors c.args.i []
 row_is c = ap (λ (t : List (List ℤ)). get_or t c.args.i []) c.requires.table_value
 
 pub sum_of-requires : goal.sum_of-requires
 sum_of-requires c = record {
-  seven = subst (Seven 16) (sym (row_is (goal.at.sum_of-requires c).Start)) (row_fits c.args.i c.requires.i_bound.0);
-  seven_2 = c.requires.i_bound.1;
+  seven = subst (Seven 16) (sym (row_is (goal.at.sum_of-requires c).Start)) (row_fits c.args.i c.requires.i_bound);
+  seven_2 = c.requires.seven;
 }
 
 pub returns : goal.returns
