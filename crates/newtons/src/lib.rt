@@ -42,7 +42,8 @@ pub fn value_of(x: f64) -> Held
     }
     let bits = f64::to_bits(x);
     let unsigned = bits % 0x8000_0000_0000_0000;
-    if unsigned == 0 {
+    let is_zero = unsigned == 0;
+    if is_zero {
         return Held::Whole(0);
     }
     let exponent = unsigned / 0x10_0000_0000_0000;
@@ -50,21 +51,25 @@ pub fn value_of(x: f64) -> Held
         // Above 0 and below 1 in size.
         return Held::NotWhole;
     }
-    if exponent == 2047 {
+    let is_infinite = exponent == 2047;
+    if is_infinite {
         // An infinity.
         return Held::NotWhole;
     }
-    if exponent > 1075 {
+    let is_large = exponent > 1075;
+    if is_large {
         return Held::Large;
     }
     // The size is so many units of 2^(exponent - 1075).
     let units = 0x10_0000_0000_0000 + bits % 0x10_0000_0000_0000;
     let one = 1u64 << (1075 - exponent);
-    if units % one > 0 {
+    let has_fraction = units % one > 0;
+    if has_fraction {
         return Held::NotWhole;
     }
     let size = units / one;
-    if bits >= 0x8000_0000_0000_0000 {
+    let is_negative = bits >= 0x8000_0000_0000_0000;
+    if is_negative {
         return Held::Whole(-(size as i64));
     }
     Held::Whole(size as i64)

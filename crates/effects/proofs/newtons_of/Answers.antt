@@ -9,7 +9,6 @@ use mir.Val.{to_z, of_z}
 use Rattle.effects.specs.Check.{newtons_of}
 use Rattle.newtons.proofs.Word.{kept}
 use Rattle.lists.proofs.Lists.{by_places}
-use borrow.Author.Rules.{rules}
 use Rattle.effects.proofs.newtons_of.Goals as goal
 
 pub returns : goal.returns

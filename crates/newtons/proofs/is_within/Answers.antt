@@ -5,7 +5,6 @@ use lib.Dec.{leb}
 use mir.Syntax.{w64}
 use mir.Facts.{to_z-of_z}
 use Rattle.newtons.specs.Effect.{magnitude_of, limit}
-use borrow.Author.Rules.{rules}
 use Rattle.newtons.proofs.is_within.Goals as goal
 
 pub returns : goal.returns

@@ -19,7 +19,7 @@ use Rattle.newtons.specs.Effect.{signed, itself, said_held}
 use Rattle.newtons.proofs.Values.{Is, Fields, fields_of, not_nan, nan_value, zero_value, below_one, infinite, large_value, large_size, fraction_value, whole_value}
 use Rattle.newtons.proofs.Limits.{held_none, held_large, held_whole, held_signed}
 use Rattle.newtons.proofs.value_of.Goals as goal
-use Rattle.newtons.proofs.value_of.Goals.{Else-exponent-gt1075, Else-units-one-gt0, Start}
+use Rattle.newtons.proofs.value_of.Goals.{Else-is_large, Else-has_fraction, Start}
 
 abbrev bits : Start → ℕ
 bits c = to_bits binary64 c.args.x
@@ -62,31 +62,31 @@ returns-then-x c = sym (held_none (nan_value c.args.x c.if-x.true))
 pub float_to_bits-bits : goal.float_to_bits-bits
 float_to_bits-bits c = not_nan c.args.x c.if-x.false
 
-pub returns-then-unsigned-eq0 : goal.returns-then-unsigned-eq0
+pub returns-then-is_zero : goal.returns-then-is_zero
 unfolding said_held number_of
-returns-then-unsigned-eq0 c =
-    sym (held_whole (zero_value (fields (goal.at.returns-then-unsigned-eq0 c).Start) (omega (arith, c.if-unsigned-eq0.true)) (omega (arith, c.if-unsigned-eq0.true))) (lit< tt))
+returns-then-is_zero c =
+    sym (held_whole (zero_value (fields (goal.at.returns-then-is_zero c).Start) (omega (arith, c.if-is_zero.true)) (omega (arith, c.if-is_zero.true))) (lit< tt))
 
 pub returns-then-exponent-lt1023 : goal.returns-then-exponent-lt1023
 unfolding said_held number_of
 returns-then-exponent-lt1023 c =
     let t = (goal.at.returns-then-exponent-lt1023 c).Start in
-    sym (held_none (below_one (fields t) (not_zero (bits t) c.if-unsigned-eq0.false) c.if-exponent-lt1023.true))
+    sym (held_none (below_one (fields t) (not_zero (bits t) c.if-is_zero.false) c.if-exponent-lt1023.true))
 
-pub returns-then-exponent-eq2047 : goal.returns-then-exponent-eq2047
+pub returns-then-is_infinite : goal.returns-then-is_infinite
 unfolding said_held number_of
-returns-then-exponent-eq2047 c = sym (held_none (infinite (fields (goal.at.returns-then-exponent-eq2047 c).Start) c.if-exponent-eq2047.true))
+returns-then-is_infinite c = sym (held_none (infinite (fields (goal.at.returns-then-is_infinite c).Start) c.if-is_infinite.true))
 
-pub returns-then-exponent-gt1075 : goal.returns-then-exponent-gt1075
+pub returns-then-is_large : goal.returns-then-is_large
 unfolding said_held number_of
-returns-then-exponent-gt1075 c =
-    sym (held_large (large_value (fields (goal.at.returns-then-exponent-gt1075 c).Start) c.if-exponent-gt1075.true c.if-exponent-eq2047.false) (large_size _ _ (omega (arith, c.if-exponent-gt1075.true))))
+returns-then-is_large c =
+    sym (held_large (large_value (fields (goal.at.returns-then-is_large c).Start) c.if-is_large.true c.if-is_infinite.false) (large_size _ _ (omega (arith, c.if-is_large.true))))
 
-pub nonzero_rem-units-2 : goal.nonzero_rem-units-2
-nonzero_rem-units-2 c = one-positive _ (omega arith)
+pub nonzero_rem-has_fraction : goal.nonzero_rem-has_fraction
+nonzero_rem-has_fraction c = one-positive _ (omega arith)
 
 -- past the tests of the exponent
-module _ (c : Else-exponent-gt1075) where
+module _ (c : Else-is_large) where
   abbrev start : Start
   start = c.before.before.before.before.before
 
@@ -97,24 +97,24 @@ module _ (c : Else-exponent-gt1075) where
   above = omega (arith, c.if-exponent-lt1023.false)
 
   upto : exponent ≤ 1075
-  upto = c.if-exponent-gt1075.false
+  upto = c.if-is_large.false
 
   one : 1 * 2 ^ (1075 - exponent) % 2 ^ 64 ≡ 2 ^ (1075 - exponent)
   one = one-is (1075 - exponent) (omega (arith, c.if-exponent-lt1023.false))
 
-pub returns-then-units-one-gt0 : goal.returns-then-units-one-gt0
+pub returns-then-has_fraction : goal.returns-then-has_fraction
 unfolding said_held number_of
-returns-then-units-one-gt0 c =
-    let t = (goal.at.returns-then-units-one-gt0 c).Else-exponent-gt1075 in
-    sym (held_none (fraction_value (fields (start t)) (above t) (upto t) (one t) (λ q. omega (arith, c.if-units-one-gt0.true))))
+returns-then-has_fraction c =
+    let t = (goal.at.returns-then-has_fraction c).Else-is_large in
+    sym (held_none (fraction_value (fields (start t)) (above t) (upto t) (one t) (λ q. omega (arith, c.if-has_fraction.true))))
 
 -- the size is whole, and below 2^53
-module _ (c : Else-units-one-gt0) where
+module _ (c : Else-has_fraction) where
   abbrev size : ℕ
   size = (2 ^ 52 + bits (start c.before) % 2 ^ 52) / (1 * 2 ^ (1075 - exponent c.before) % 2 ^ 64)
 
   is : Is (start c.before).args.x (leb (2 ^ 63) (bits (start c.before))) size
-  is = whole_value (fields (start c.before)) (above c.before) (upto c.before) (one c.before) (omega (arith, c.if-units-one-gt0.false))
+  is = whole_value (fields (start c.before)) (above c.before) (upto c.before) (one c.before) (omega (arith, c.if-has_fraction.false))
 
   small : size < 2 ^ 53
   small = lt_of_le_of_lt (div-le_self (2 ^ 52 + bits (start c.before) % 2 ^ 52) _) (omega arith)
@@ -126,24 +126,24 @@ pub nonzero_div-size : goal.nonzero_div-size
 nonzero_div-size c = one-positive _ (omega arith)
 
 pub overflow_cast-result : goal.overflow_cast-result
-overflow_cast-result c = size_fits (goal.at.overflow_cast-result c).Else-units-one-gt0
+overflow_cast-result c = size_fits (goal.at.overflow_cast-result c).Else-has_fraction
 
 pub overflow_sub-result : goal.overflow_sub-result
-overflow_sub-result c = negative_fits _ (small (goal.at.overflow_sub-result c).Else-units-one-gt0)
+overflow_sub-result c = negative_fits _ (small (goal.at.overflow_sub-result c).Else-has_fraction)
 
-pub returns-then-bits-ge9223372036854775808 : goal.returns-then-bits-ge9223372036854775808
+pub returns-then-is_negative : goal.returns-then-is_negative
 unfolding signed said_held
-returns-then-bits-ge9223372036854775808 c =
-    let t = (goal.at.returns-then-bits-ge9223372036854775808 c).Else-units-one-gt0 in
+returns-then-is_negative c =
+    let t = (goal.at.returns-then-is_negative c).Else-has_fraction in
     let l = small t in
-    ap (λ (z : ℤ). gives (itself z)) (to_z-of_z w64 _ (negative_fits _ l) ∙ negative-is _ l) ∙ sym (held_signed (is t) l true (le-leb _ _ c.if-bits-ge9223372036854775808.true))
+    ap (λ (z : ℤ). gives (itself z)) (to_z-of_z w64 _ (negative_fits _ l) ∙ negative-is _ l) ∙ sym (held_signed (is t) l true (le-leb _ _ c.if-is_negative.true))
 
 pub overflow_cast-result-2 : goal.overflow_cast-result-2
-overflow_cast-result-2 c = size_fits (goal.at.overflow_cast-result-2 c).Else-units-one-gt0
+overflow_cast-result-2 c = size_fits (goal.at.overflow_cast-result-2 c).Else-has_fraction
 
 pub returns : goal.returns
 unfolding signed said_held
 returns c =
-    let t = (goal.at.returns c).Else-units-one-gt0 in
+    let t = (goal.at.returns c).Else-has_fraction in
     let l = small t in
-    ap (λ (z : ℤ). gives (itself z)) (positive-is _ l) ∙ sym (held_signed (is t) l false (lt-leb _ _ c.if-bits-ge9223372036854775808.false))
+    ap (λ (z : ℤ). gives (itself z)) (positive-is _ l) ∙ sym (held_signed (is t) l false (lt-leb _ _ c.if-is_negative.false))

@@ -11,7 +11,6 @@ use mir.Syntax.{w64}
 use mir.Val.{Fits, SFits, to_z, of_z}
 use mir.ValLaws.{to_z-of_z}
 use Rattle.newtons.proofs.Word.{size_neg, small_fits, kept}
-use borrow.Author.Rules.{rules}
 use borrow.Author.Tests.{le-ltb}
 use Rattle.newtons.proofs.signed.magnitude.Goals as goal
 use Rattle.newtons.proofs.signed.magnitude.Goals.{Then-n-lt0}
