@@ -4,19 +4,13 @@ use mathlib.Core.Path.{◌≡◌, refl, sym, ◌∙◌, ap}
 use mathlib.Core.Bool.{Bool, true, false, cond, ◌||◌, false≢true}
 use mathlib.Core.List.{List, [], ◌∷◌}
 use Prim.Native.Nat.{ℕ, zero, suc, ◌+◌, ◌-◌, ◌≤◌, ◌<◌}
-use native.Mathlib.Nat.{not-suc-le-zero}
+use native.Mathlib.Nat.{add-zero, not-suc-le-zero}
 use native.Mathlib.Omega.{arith}
 use lib.Dec.{eqb}
-use lib.ListN.{length, take, drop, get_or, length-drop}
-use lib.Seq.{drop-cons, drop-drop, take-length}
-use Rattle.bytes.specs.Bytes.{slice, index_of, index_after}
-use Rattle.text.specs.Lines.{newline, line, rest, with_byte, split, end_from}
+use lib.ListN.{length, take, drop, get_or, length-drop, drop_of_length-le}
+use lib.Seq.{drop-cons, drop-drop}
+use Rattle.text.specs.Lines.{newline, index_of, index_after, line, rest, with_byte, split, end_from}
 use Rattle.text.specs.inner.LineEnd.{newline_within}
-
--- a search from a place to the end of the text finds the end of the line
-pub searched : (text : List ℕ) (at : ℕ) → at + index_of newline (slice at (length text) text) ≡ end_from text at
-unfolding slice end_from
-searched text at = rw take-length
 
 -- of two tests neither holds
 neither : (s t : Bool) → s || t ≡ false → (s ≡ false) × (t ≡ false)
@@ -24,11 +18,23 @@ neither false t e = (refl, e)
 neither true t e = absurd (false≢true (sym e))
 
 -- a byte that is no newline is passed over
-one_passed : (text : List ℕ) (at : ℕ) → at < length text → eqb (get_or text at 0) newline ≡ false → end_from text at ≡ end_from text (suc at)
+pub one_passed : (text : List ℕ) (at : ℕ) → at < length text → eqb (get_or text at 0) newline ≡ false → end_from text at ≡ end_from text (suc at)
 unfolding index_of index_after end_from
 one_passed text at h e =
     let m : index_of newline (drop at text) ≡ suc (index_of newline (drop (suc at) text)) = rw (drop-cons text at 0, e) in
     omega arith
+
+-- the line ends where a newline stands
+pub ends_here : (text : List ℕ) (at : ℕ) → at < length text → eqb (get_or text at 0) newline ≡ true → at ≡ end_from text at
+unfolding index_of index_after end_from
+ends_here text at h e =
+    let m : index_of newline (drop at text) ≡ 0 = rw (drop-cons text at 0, e) in
+    omega arith
+
+-- from the end of the text on there is nothing to look at
+pub ends_none : (text : List ℕ) (at : ℕ) → length text ≤ at → at ≡ end_from text at
+unfolding index_of end_from
+ends_none text at h = rw (drop_of_length-le text {i = at} h) (sym (add-zero at))
 
 -- a byte and so many after it, none of them a newline, are passed over
 pub passed : (text : List ℕ) (at n : ℕ) → at + n < length text → newline_within text at n ≡ false → end_from text at ≡ end_from text (at + suc n)

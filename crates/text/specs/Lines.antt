@@ -1,7 +1,6 @@
 -- Paper 01, "The sheet": a text as lines, "each ended by one newline byte (10)".
 -- Assumes nothing.
-use Rattle.std.specs.Prelude.{cond, List, [], ◌∷◌, ◌++◌, ℕ, ◌+◌, eqb, drop}
-use Rattle.bytes.specs.Bytes.{index_of}
+use Rattle.std.specs.Prelude.{Bool, true, false, cond, List, [], ◌∷◌, ◌++◌, ℕ, suc, ◌+◌, eqb, drop}
 
 -- 01, The sheet: "one newline byte (10)", which ends a line
 abbrev pub newline : ℕ
@@ -30,6 +29,16 @@ with_byte b (rest l) = rest (b ∷ l)
 unfoldable pub split : List ℕ → Lines
 split [] = rest []
 split (b ∷ bs) = cond (eqb b newline) (line [] (split bs)) (with_byte b (split bs))
+
+-- No part of the paper: a place is the first where the byte there is the one looked for, and else one more than the first behind it
+unfoldable pub index_after : Bool → ℕ → ℕ
+index_after true n = 0
+index_after false n = suc n
+
+-- No part of the paper: the place of the first such byte; the length where there is none
+unfoldable pub index_of : ℕ → List ℕ → ℕ
+index_of b [] = 0
+index_of b (x ∷ xs) = index_after (eqb x b) (index_of b xs)
 
 -- 01, The sheet: where a line ends, the place of the first newline from a place on; the end of the text where there is none
 unfoldable pub end_from : List ℕ → ℕ → ℕ

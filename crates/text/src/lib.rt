@@ -1,5 +1,6 @@
 // Text: words, numbers and newlines put into a lent buffer, and the lines of a text.
 #![tactic(auto)]
+
 ghost use Rattle.std.specs.Prelude.{◌≡◌, [], ◌∷◌};
 ghost use Rattle.text.specs.Text.{decimal, signed_parts};
 ghost use Rattle.text.specs.Lines.{newline};
@@ -20,7 +21,9 @@ pub fn put_text(buffer: &mut [u8], at: usize, text: &[u8]) -> usize
     if text.len() > buffer.len() - at {
         return at;
     }
-    at + bytes::copy(text, &mut buffer[at..])
+    let end = at + text.len();
+    buffer[at..end].copy_from_slice(text);
+    end
 }
 
 // Puts the decimal digits of a number, as `put_text` does.

@@ -18,6 +18,22 @@ fn has_newline(text: &[u8], at: usize) -> bool
         | (text[at + 7] == b'\n')
 }
 
+// The place of the first newline from a place on, looked for byte by byte; the end of the text where
+// there is none.
+fn find_newline(text: &[u8], from: usize) -> usize
+    requires { from ≤ length text.now }
+    ensures { result ≡ end_from text.now from }
+{
+    let mut at = from;
+    while at < text.len() {
+        if text[at] == b'\n' {
+            return at;
+        }
+        at += 1;
+    }
+    at
+}
+
 // The place of the first newline from a place on; the end of the text where there is none, and the
 // place itself where it is past the end.
 pub fn line_end(text: &[u8], from: usize) -> usize
@@ -29,9 +45,9 @@ pub fn line_end(text: &[u8], from: usize) -> usize
     let mut at = from;
     while text.len() - at >= 8 {
         if has_newline(text, at) {
-            return bytes::scan::find(text, at, text.len(), b'\n');
+            return find_newline(text, at);
         }
         at += 8;
     }
-    bytes::scan::find(text, at, text.len(), b'\n')
+    find_newline(text, at)
 }
