@@ -1,5 +1,6 @@
 // The form of a line of a sheet: what its words say, whatever its numbers come to.
 #![tactic(auto)]
+
 ghost use Rattle.std.specs.Prelude.{◌≡◌, [], ◌≤◌, length};
 ghost use Rattle.sheet_lines.specs.Form.{fields_from, member_form, floor_form, effect_end, effect_form, is_floor, later_form, said_form, line_said};
 ghost use Rattle.sheet_lines.specs.inner.InLine.{Starts, parts_of, told};
