@@ -116,8 +116,8 @@ fn answer(rt: &impl Print, state: State, line: &[u8]) -> io::Result<State>
     let n = asked.numbers;
     let kind = asked.kind;
     match kind {
-        Kind::Factor => print::print_answer(rt, "factor", member::factor(n[0]))?,
-        Kind::Reduced => print::print_answer(rt, "reduced", reduced_load(n))?,
+        Kind::Factor => print::print_answer(rt, b"factor=", member::factor(n[0]))?,
+        Kind::Reduced => print::print_answer(rt, b"reduced=", reduced_load(n))?,
         Kind::Open => return columns::open(rt, state, n[0]),
         Kind::Enter => return columns::enter(rt, state, n[0], n[1], n[2], n[3]),
         Kind::Ask => columns::ask(rt, state, n[0])?,

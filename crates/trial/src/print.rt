@@ -3,50 +3,68 @@ use error_bound::AfterList;
 use figure::Asked;
 use refusal::Answer;
 use std::io;
+use std::io::Write;
+
+// Prints a name and a number.
+pub fn print(rt: &impl Print, name: &[u8], number: u64) -> io::Result<()> {
+    io::writer(rt).write_all(name)?;
+    print!(rt; "{number}")
+}
+
+// Ends a line.
+pub fn end_line(rt: &impl Print) -> io::Result<()> {
+    println!(rt; "")
+}
 
 // A line that asks nothing.
 pub fn unread(rt: &impl Print) -> io::Result<()> {
     println!(rt; "unread")
 }
 
-// Prints what a call gave under its name, or the number of its refusal.
-pub fn print_answer(rt: &impl Print, name: &str, answer: Answer) -> io::Result<()> {
-    match answer {
-        Answer::Gives(n) => println!(rt; "{name}={n}"),
-        Answer::Refused(refusal) => println!(rt; "refused={}", refusal::number(refusal)),
-    }
+// Prints the number of a refusal.
+fn print_refused(rt: &impl Print, number: u64) -> io::Result<()> {
+    print(rt, b"refused=", number)
 }
 
-// Prints the number of opening or entering, 0 where it is not refused.
+// Prints what a call gave under its name, or the number of its refusal, and ends the line.
+pub fn print_answer(rt: &impl Print, name: &[u8], answer: Answer) -> io::Result<()> {
+    match answer {
+        Answer::Gives(n) => print(rt, name, n)?,
+        Answer::Refused(refusal) => print_refused(rt, refusal::number(refusal))?,
+    }
+    end_line(rt)
+}
+
+// Prints the number of opening or entering, 0 where it is not refused, and ends the line.
 pub fn print_number(rt: &impl Print, number: u64) -> io::Result<()> {
-    println!(rt; "number={number}")
+    print(rt, b"number=", number)?;
+    end_line(rt)
 }
 
 // Prints n, X and the figure, or the number of the refusal.
 fn print_working(rt: &impl Print, asked: Asked) -> io::Result<()> {
     match asked {
         Asked::Gives(working) => {
-            let floors = working.floors;
-            let influence = working.influence.0;
-            let figure = working.figure;
-            print!(rt; "floors={floors} influence={influence} figure={figure}")
+            print(rt, b"floors=", working.floors)?;
+            print(rt, b" influence=", working.influence.0)?;
+            print(rt, b" figure=", working.figure)
         }
-        Asked::Refused(number) => print!(rt; "refused={number}"),
+        Asked::Refused(number) => print_refused(rt, number),
     }
 }
 
 // Prints what asking at a floor gave, and ends the line.
 pub fn print_asked(rt: &impl Print, asked: Asked) -> io::Result<()> {
     print_working(rt, asked)?;
-    println!(rt; "")
+    end_line(rt)
 }
 
 // Prints what asking after a list gave and which of its entries were refused, and ends the line.
 pub fn print_after(rt: &impl Print, answer: AfterList) -> io::Result<()> {
-    print_working(rt, answer.asked)?;
-    let refusals = answer.refusals;
-    let count = refusals.count;
-    let number = refusals.number;
-    let place = refusals.place;
-    println!(rt; " refusals={count} first={number} place={place}")
+    let asked = answer.asked;
+    print_working(rt, asked)?;
+    print(rt, b" refusals=", answer.refusals.count)?;
+    print(rt, b" first=", answer.refusals.number)?;
+    print(rt, b" place=", answer.refusals.place)?;
+    end_line(rt)
 }
