@@ -143,7 +143,7 @@ from_keeps k at d (rest []) h e = go (is_complete d.due) refl e
     go true q e = whole_keeps d.due d.sheet q h
     go false q e = absurd (omega arith)
 from_keeps k at d (rest (b ∷ bs)) h e = absurd (omega arith)
-from_keeps k at d (line l ls) h e = if_keeps (line_taken d l) _ _ _ d _ (from_keeps _ _ (line_taken d l).draft ls (line_kept d l h)) e
+from_keeps k at d (line l ls) h e = if_keeps (line_taken d l) _ _ _ d _ (from_keeps (k + 1) (at + length l + 1) (line_taken d l).draft ls (line_kept d l h)) e
 
 -- a sheet that is read keeps the limits
 pub read_keeps : (text : List ℕ) → (read_sheet text).number ≡ 0 → Keeps (read_sheet text).sheet

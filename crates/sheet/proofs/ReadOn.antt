@@ -76,7 +76,7 @@ part_from k at d (rest []) = go (is_complete d.due)
     go false = record { order = omega arith; inside = omega arith }
 part_from k at d (rest (b ∷ bs)) = record { order = omega arith; inside = omega arith }
 part_from k at d (line l ls) =
-    let on = part_from _ _ (line_taken d l).draft ls in
+    let on = part_from (k + 1) (at + length l + 1) (line_taken d l).draft ls in
     let size : length (ended l ++ bytes ls) ≡ length l + 1 + length (bytes ls) = simp length-append in
     part_if (line_taken d l) _ _ _ d _ (record { order = on.order; inside = omega (arith, on.inside, size) }) (omega arith) (omega (arith, size))
 

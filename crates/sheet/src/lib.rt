@@ -1,5 +1,6 @@
 // A text sheet read into a column and six effects, line by line; and the part of a text that is refused.
 #![tactic(auto)]
+
 ghost use Rattle.std.specs.Prelude.{◌≡◌, List, ℕ};
 ghost use Rattle.column.specs.inner.Sound.{no_places};
 ghost use Rattle.sheet.specs.Sheet.{reading, read_sheet, offending_of, offending_at};
