@@ -1,0 +1,54 @@
+-- `report::report` meets its contract: a sheet that is read is put whole, of a refused one nothing. Assumes nothing.
+use mathlib.Core.Path.{refl, ◌∙◌, ap}
+use mathlib.Core.List.{List}
+use Prim.Native.Nat.{ℕ, ◌≤◌}
+use native.Mathlib.Omega.{arith}
+use lib.ListN.{length}
+use Rattle.text.specs.Text.{joined}
+use Rattle.text.specs.Put.{fronted}
+use Rattle.text.proofs.Puts.{Front, puts_front}
+use Rattle.sheet.specs.Keeps.{Keeps}
+use Rattle.report.specs.Report.{takedown_of}
+use Rattle.report.proofs.Lengths.{takedown_most}
+use Rattle.report.proofs.Prints.{put_read, put_refused, reported}
+use borrow.Author.Rules.{rules}
+use Rattle.report.proofs.report.Goals as goal
+use Rattle.report.proofs.report.Goals.{After-put_takedown, After-put_takedown-arg-2-1}
+
+pub returns-then-reading-gt0 : goal.returns-then-reading-gt0
+unfolding fronted
+returns-then-reading-gt0 c =
+    let e = c.read-reading.ensures.0 in
+    let none = put_refused c.args.text.now e (omega (arith, c.if-reading-gt0.true)) in
+    record {
+      value = reported c.args.text.now e (ap length none);
+      out_after = ap (λ (t : List ℕ). fronted t c.args.out.now) none;
+      prefix_len = (omega arith, refl);
+    }
+
+keeps : (c : After-put_takedown-arg-2-1) → Keeps c.read-reading.result.sheet
+keeps c = c.read-reading.ensures.1 (omega (arith, c.if-reading-gt0.false))
+
+pub put_takedown-requires : goal.put_takedown-requires
+put_takedown-requires c = keeps (goal.at.put_takedown-requires c).After-put_takedown-arg-2-1
+
+-- the take-down is put, and finds room
+whole : (c : After-put_takedown)
+    → let t = joined (takedown_of c.read-reading.result.sheet) in
+    Front c.args.out.now t c.put_takedown.new.to c.put_takedown.result
+whole c =
+    let sheet = c.read-reading.result.sheet in
+    let size : 4096 ≤ length c.args.out.now = search rules in
+    let most = takedown_most sheet (keeps (goal.at.After-put_takedown c).After-put_takedown-arg-2-1) in
+    puts_front (takedown_of sheet) c.put_takedown.ensures (omega (arith, most))
+
+pub returns : goal.returns
+returns c =
+    let e = c.read-reading.ensures.0 in
+    let w = whole (goal.at.returns c).After-put_takedown in
+    let put = put_read c.args.text.now e (omega (arith, c.if-reading-gt0.false)) in
+    record {
+      value = reported c.args.text.now e (w.ends ∙ ap length put);
+      out_after = w.is ∙ ap (λ (t : List ℕ). fronted t c.args.out.now) put;
+      prefix_len = w.counts;
+    }
