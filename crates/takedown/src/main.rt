@@ -1,5 +1,6 @@
 // Reads a sheet from standard input and prints its take-down.
 #![tactic(auto)]
+
 ghost use Rattle.std.specs.Prelude.{◌≡◌, ◌<◌, length, take};
 ghost use Rattle.io.specs.Counts.{IsPrefixLen};
 ghost use Rattle.sheet.specs.Sheet.{longest};
