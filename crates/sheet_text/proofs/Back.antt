@@ -83,7 +83,7 @@ parts : (xs : List Line) {ys : List Line} {fs : List (List ℕ)} → SayFloors f
 parts [] s = record { first = []; then = _; both = refl; say_first = no_line; say_then = s }
 parts (x ∷ xs) (and_line {l} h s) =
     let p = parts xs s in
-    record { first = l ∷ p.first; then = p.then; both = ap (λ (k : List (List ℕ)). l ∷ k) p.both; say_first = and_line h p.say-first; say_then = p.say-then }
+    record { first = l ∷ p.first; then = p.then; both = ap (λ (k : List (List ℕ)). l ∷ k) p.both; say_first = and_line h p.say_first; say_then = p.say_then }
 
 -- the numbers of a line that is accepted are short
 short_line : (m : Member) (ls : List Line) (x : Line) → entry_number m ls x ≡ 0 → ShortForm (F.Floor x)
@@ -107,7 +107,7 @@ unfolding valued said_form if_taken opened_of text_of ShortForm
 reads_lines {m} h none no_line =
     let start : ReadsTo [] unread = record { reads = λ left. refl; short = omega arith } in
     reads_more (lined (column_of m [])) (member_text m.code) (F.Member m.code) (member m.code refl refl refl) (omega (arith, limits 1 12 m.code h)) (rw h) start
-reads_lines {m} h (more xs x a e) s = let p = parts xs s in reads_floor m xs x (in_turn_holdable a) e p.both p.say-then (reads_lines h a p.say-first)
+reads_lines {m} h (more xs x a e) s = let p = parts xs s in reads_floor m xs x (in_turn_holdable a) e p.both p.say_then (reads_lines h a p.say_first)
 
 -- the effects up to a place, and those that were there before from it on; with one more
 filled : (es zs : List ℤ) (k : ℕ) → length es ≡ length zs → k < length es → set (take k es ++ drop k zs) k (get_or es k (pos 0)) ≡ take (suc k) es ++ drop (suc k) zs
