@@ -65,7 +65,7 @@ pub effects_length : (n : Newtons)
     + (length (signed_decimal n.rain) + length (signed_decimal n.wind) + length (signed_decimal n.quake))
 unfolding effect_keys effects_parts joined
 effects_length n =
-    simp (effects_more, length-append) (omega arith)
+    simp effects_more (omega arith)
 
 -- ---- the longest sheet
 

@@ -12,24 +12,20 @@ use Rattle.sheet_text.specs.Written.{written}
 use Rattle.sheet_writer.specs.inner.Parts.{sheet_from}
 use Rattle.sheet_writer.proofs.Texts.{sheet_text}
 use Rattle.sheet_writer.proofs.Sizes.{written_most}
-use Rattle.sheet_writer.proofs.fits.Statement.{statement}
-use Rattle.sheet_writer.proofs.fits.Tie as tie
+use Rattle.sheet_writer.proofs.fits.Goals as goal
+use Rattle.sheet_writer.proofs.fits.Goals.{Start}
 
-abbrev sheet : tie.Start → Sheet
+abbrev sheet : Start → Sheet
 sheet s = sheet_from (column_from s.args.member s.args.count s.args.held.now) s.args.newtons
 
-returns : tie.Need-returns
+pub returns-then-room-ge-ROOM : goal.returns-then-room-ge-ROOM
+returns-then-room-ge-ROOM c =
+    let t = (goal.at.returns-then-room-ge-ROOM c).Start in
+    sym (le-leb (length (written (sheet t))) c.args.room (omega (arith, written_most (sheet t) c.requires)))
+
+pub sheet_length-requires : goal.sheet_length-requires
+sheet_length-requires c = (sound c.requires.column).held
+
+pub returns : goal.returns
 returns c =
-    let s = c.before in
-    sym (le-leb (length (written (sheet s))) s.args.room (omega (arith, written_most (sheet s) s.requires)))
-
-sheet-length-requires : tie.Need-sheet-length-requires
-sheet-length-requires c κs = (sound c.before.requires.column).held
-
-returns-2 : tie.Need-returns-2
-returns-2 c =
-    let s = c.before.before in
-    ap (λ (k : ℕ). leb k s.args.room) (c.sheet-length.ensures ∙ ap length (sheet_text (sheet s)))
-
-pub fits-spec : {M : Type 1} → statement M
-fits-spec = tie.close (tie.spec returns sheet-length-requires returns-2)
+    ap (λ (k : ℕ). leb k c.args.room) (c.sheet_length.ensures ∙ ap length (sheet_text (sheet (goal.at.returns c).Start)))

@@ -1,0 +1,12 @@
+-- `sheet_writer::lines::put_effect` meets its contract: the key, the number with its sign, and the newline. Assumes nothing.
+use mir.Syntax.{w64}
+use mir.ValLaws.{to_z-of_z}
+use Rattle.text.proofs.Puts.{puts_then}
+use Rattle.sheet_writer.specs.inner.Parts.{effect_parts}
+use Rattle.sheet_writer.proofs.lines.put_effect.Goals as goal
+
+pub returns : goal.returns
+unfolding effect_parts
+returns c =
+    let number = rw (to_z-of_z w64 c.args.newtons c.ranges.newtons) at c.put_signed-b.ensures in
+    puts_then _ _ _ _ c.put_text-a.ensures (puts_then _ _ _ _ number c.put_text.ensures)
