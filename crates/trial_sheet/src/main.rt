@@ -2,26 +2,28 @@
 // whether it is the same when it is written back. Before each sheet stands a line `sheet` and the number
 // of its bytes. Its stored output is the second reckoning's.
 #![tactic(auto)]
+
 ghost use Rattle.io.specs.Counts.{IsPrefixLen};
 ghost use Rattle.column.specs.Column.{column_from, Reached};
 
 use column::{Member, Places};
-use libc::{STDERR_FILENO, STDIN_FILENO, STDOUT_FILENO};
 use sheet_lines::EFFECTS;
 use sheet_writer::SheetDoubles;
+use std::io;
+use std::io::{Read, Write};
 
 // More than the stored sheets take.
 const ROOM: usize = 1048576;
 
 // Writes a text.
-fn write(text: &[u8]) {
-    io::write_all(STDOUT_FILENO, text);
+fn write(rt: &impl Print, text: &[u8]) -> io::Result<()> {
+    io::writer(rt).write_all(text)
 }
 
 // Writes a number after its name.
-fn write_number(name: &[u8], n: usize) {
-    write(name);
-    io::print_decimal(STDOUT_FILENO, n as u64);
+fn write_number(rt: &impl Print, name: &[u8], n: usize) -> io::Result<()> {
+    write(rt, name)?;
+    print!(rt; "{n}")
 }
 
 // Puts all that takedown prints for a sheet, and gives how many bytes that is.
@@ -86,42 +88,49 @@ fn put_back(
 }
 
 // Prints how many bytes a sheet that was read has when it is written back, and whether they are its text.
-fn write_back(text: &[u8], held: &Places, member: Member, count: u16, effects: [i64; EFFECTS])
+fn write_back(
+    rt: &impl Print,
+    text: &[u8],
+    held: &Places,
+    member: Member,
+    count: u16,
+    effects: [i64; EFFECTS],
+) -> io::Result<()>
     requires { Reached (column_from member count held.now) }
 {
     let mut out = [0u8; sheet_writer::ROOM];
     let length = put_back(held, member, count, effects, &mut out);
-    write_number(b"written=", length);
+    write_number(rt, b"written=", length)?;
     if is_same(text, &out[..length]) {
-        write(b" same\n");
-        return;
+        return write(rt, b" same\n");
     }
-    write(b" other\n");
+    write(rt, b" other\n")
 }
 
 // Prints of a sheet that is read what it is when it is written back.
-fn answer_back(text: &[u8]) {
+fn answer_back(rt: &impl Print, text: &[u8]) -> io::Result<()> {
     let reading = sheet::read(text);
     if reading.number == 0 {
         let member = reading.sheet.column.member;
         let count = reading.sheet.column.count;
         let effects = reading.sheet.effects;
-        write_back(text, &reading.sheet.column.held, member, count, effects);
+        return write_back(rt, text, &reading.sheet.column.held, member, count, effects);
     }
+    Ok(())
 }
 
 // Prints the report of a sheet, then where the part that is refused starts and ends, and the part.
-fn answer(text: &[u8]) {
+fn answer(rt: &impl Print, text: &[u8]) -> io::Result<()> {
     let mut out = [0u8; report::ROOM];
     let size = put_printed(text, &mut out);
-    write(&out[..size]);
+    write(rt, &out[..size])?;
     let reading = sheet::read(text);
-    write_number(b"start=", reading.start);
-    write_number(b" end=", reading.end);
-    write(b" part=");
-    write(sheet::offending(text));
-    write(b"\n");
-    answer_back(text);
+    write_number(rt, b"start=", reading.start)?;
+    write_number(rt, b" end=", reading.end)?;
+    write(rt, b" part=")?;
+    write(rt, sheet::offending(text))?;
+    write(rt, b"\n")?;
+    answer_back(rt, text)
 }
 
 // The number that a line `sheet` gives; leading digits past a million are dropped, since no text is so long.
@@ -143,32 +152,30 @@ fn size_from(line: &[u8]) -> usize {
 }
 
 // Answers for every sheet; a sheet that is cut short is not read.
-fn answer_all(text: &[u8]) {
+fn answer_all(rt: &impl Print, text: &[u8]) -> io::Result<()> {
     let mut at = 0;
     while at < text.len() {
-        let end = bytes::scan::find(text, at, text.len(), b'\n');
-        if end == text.len() {
-            write(b"unread\n");
-            return;
-        }
+        let Some(length) = text[at..].iter().position(|byte| *byte == b'\n') else {
+            return write(rt, b"unread\n");
+        };
+        let end = at + length;
         let start = end + 1;
         let size = size_from(&text[at..end]);
         if size > text.len() - start {
-            write(b"unread\n");
-            return;
+            return write(rt, b"unread\n");
         }
         at = start + size;
-        answer(&text[start..at]);
+        answer(rt, &text[start..at])?;
     }
+    Ok(())
 }
 
 // Reads all sheets, then answers.
-fn main() {
-    let mut text = [0u8; ROOM];
-    let n = io::read_full(STDIN_FILENO, &mut text);
-    if n == ROOM {
-        io::write_all(STDERR_FILENO, b"trial_sheet: too many sheets\n");
-        return;
+fn main(rt: HostRuntime) -> io::Result<()> {
+    let mut text = Vec::new(rt.alloc());
+    rt.stdin().read_to_end(&mut text)?;
+    if text.len() >= ROOM {
+        return eprintln!(rt; "trial_sheet: too many sheets");
     }
-    answer_all(&text[..n]);
+    answer_all(&rt, &text)
 }

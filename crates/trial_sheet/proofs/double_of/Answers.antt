@@ -1,0 +1,17 @@
+-- `trial_sheet::double_of` meets its contract: a double keeps an effect within the limit. Assumes nothing.
+use Prim.Native.Nat.{◌≤◌}
+use native.Mathlib.Omega.{arith}
+use mir.Syntax.{w64}
+use mir.Val.{to_z, of_z}
+use borrow.Author.Tests.{leb-true}
+use Rattle.member.proofs.Tests.{passed}
+use Rattle.newtons.specs.Effect.{magnitude_of, limit}
+use Rattle.newtons.proofs.Values.{in_float_lem}
+use borrow.Author.Rules.{rules}
+use Rattle.trial_sheet.proofs.double_of.Goals as goal
+
+pub int_to_float-result : goal.int_to_float-result
+int_to_float-result c =
+    let z = c.args.effect in
+    let small : magnitude_of (to_z w64 (of_z w64 z)) ≤ limit = leb-true _ limit (passed c.is_within.ensures c.if-not-is_within.false) in
+    in_float_lem (to_z w64 (of_z w64 z)) (omega (arith, small))
