@@ -1,5 +1,6 @@
 // What programs in C and Rust call, with answers as structs of numbers.
 #![tactic(auto)]
+
 pub mod checks;
 pub mod columns;
 pub mod combinations;
