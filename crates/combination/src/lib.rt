@@ -62,6 +62,8 @@ fn load_at(i: usize) -> Load
 }
 
 // The governing rows of seven effects in whole newtons, or the first load whose effect is beyond the limit.
+// Compiled into its callers, so that a combination needs less of the stack.
+#[inline(always)]
 pub fn govern(newtons: Newtons) -> Governed
     ensures { (said_governed result ≡ governed (newtons_of newtons)) × NothingLost (said_governed result) }
 {
@@ -97,7 +99,7 @@ fn effect_for(effects: Effects, load: Load) -> LoadEffect
 }
 
 // What governs, a refusal with the effect as it came.
-#[tactic(auto, unfolding(crate::specs::Combine::said_governed, crate::specs::Combine::with_double, crate::specs::Combine::said_combined, refusal::specs::Refusal::number_of))]
+#[tactic(auto, unfolding(crate::specs::Combine::said_governed, crate::specs::Combine::with_double, crate::specs::Combine::said_combined))]
 fn with_double(effects: Effects, governed: Governed) -> Combined
     ensures { said_combined result ≡ with_double effects (said_governed governed) }
 {

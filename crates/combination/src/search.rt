@@ -194,7 +194,8 @@ pub fn listed_newtons(newtons: Newtons) -> [i64; 7]
     ]
 }
 
-// The rows with the greatest and the least sum.
+// The rows with the greatest and the least sum; compiled into its callers, as `govern` is.
+#[inline(always)]
 pub fn governing_of(newtons: Newtons) -> Governing
     requires { Seven limit (newtons_of newtons) }
     ensures { result ≡ governing (newtons_of newtons) }
