@@ -2,6 +2,7 @@
 use mathlib.Core.Path.{◌≡◌, sym, ◌∙◌, ap, ap₂, subst}
 use mathlib.Core.Bool.{true, false}
 use Prim.Native.Nat.{◌^◌, ◌≤◌}
+use native.Mathlib.Omega.{arith}
 use lib.IntN.{nat_abs}
 use Rattle.newtons.specs.Effect.{limit}
 use Rattle.effects.specs.inner.Sized.{Seven}
@@ -31,10 +32,10 @@ least-is : (c : After-best_of-2) → c.best_of-2.result ≡ best (sense false) (
 least-is c = c.best_of-2.ensures ∙ ap (best (sense false)) c.sums_of-sums.ensures
 
 pub row_of-requires : goal.row_of-requires
-row_of-requires c = subst (λ (b : Best). nat_abs b.tenths ≤ 2 ^ 53) (sym (greatest-is (goal.at.row_of-requires c).After-best_of)) (best_held greater_order _ (within (goal.at.row_of-requires c).After-listed_newtons))
+row_of-requires c = omega (arith, subst (λ (b : Best). nat_abs b.tenths ≤ 2 ^ 53) (sym (greatest-is (goal.at.row_of-requires c).After-best_of)) (best_held greater_order _ (within (goal.at.row_of-requires c).After-listed_newtons)))
 
 pub row_of-requires-2 : goal.row_of-requires-2
-row_of-requires-2 c = subst (λ (b : Best). nat_abs b.tenths ≤ 2 ^ 53) (sym (least-is (goal.at.row_of-requires-2 c).After-best_of-2)) (best_held less_order _ (within (goal.at.row_of-requires-2 c).After-listed_newtons))
+row_of-requires-2 c = omega (arith, subst (λ (b : Best). nat_abs b.tenths ≤ 2 ^ 53) (sym (least-is (goal.at.row_of-requires-2 c).After-best_of-2)) (best_held less_order _ (within (goal.at.row_of-requires-2 c).After-listed_newtons)))
 
 pub returns : goal.returns
 unfolding governing
