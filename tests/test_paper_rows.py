@@ -317,7 +317,7 @@ class RefusingRows(unittest.TestCase):
     def said(self, *rows):
         """What is said of these rows, all of one list."""
         text = "".join(f"    refusing {row} ∷\n" for row in rows)
-        return complaints_of_refusing("refusing-examples =\n" + text + "    []\n", self.LISTS)
+        return complaints_of_refusing("refusing_examples =\n" + text + "    []\n", self.LISTS)
 
     def test_refusing(self):
         """Right rows, wrong ones, and those of another form."""
@@ -361,7 +361,7 @@ class Writes(unittest.TestCase):
     LISTS = "one =\n    1 ∷ 1 ∷ 2000 ∷ 1600 ∷ []\n"
     PUT = "member=2|floor=1 class=1 load=2000 area=1600|dead=0|roof=-7|snow=3|rain=0|wind=0|quake=0|"
     SIX = "(six (whole 0) (uplift 7) (halves 6) (whole 0) (uplift 0) (whole 0))"
-    TEXT = f'{LISTS}examples =\n    example 2 one {SIX} 100 (puts "{PUT}") ∷ example 2 one {SIX} 10 noRoom ∷ []\n'
+    TEXT = f'{LISTS}examples =\n    example 2 one {SIX} 100 (puts "{PUT}") ∷ example 2 one {SIX} 10 no_room ∷ []\n'
     REFUSED = "(refuses 8 4 (halves 7))"
 
     def refused(self, told):
@@ -378,7 +378,7 @@ class Writes(unittest.TestCase):
         """Another text, effect, line, code or room; another number, place or double."""
         for was, now in (("snow=3", "snow=4"), ("(uplift 7)", "(whole 7)"), ("2 one", "2 []"), (" 10 ", " 100 ")):
             self.assertIn(len(complaints_of_writes(self.TEXT.replace(was, now))), (1, 2), now)
-        for now in ("noRoom", "(refuses 9 4 (halves 7))", "(refuses 8 5 (halves 7))", "(refuses 8 4 (halves 9))"):
+        for now in ("no_room", "(refuses 9 4 (halves 7))", "(refuses 8 5 (halves 7))", "(refuses 8 4 (halves 9))"):
             self.assertEqual(len(complaints_of_writes(self.refused(now))), 1, now)
         for double in "nan", "(inf true)", "(inf false)":
             six = self.refused(f"(refuses 8 4 {double})").replace("(halves 7) (uplift", f"{double} (uplift")
@@ -398,7 +398,7 @@ class Comparing(unittest.TestCase):
     """What the script says of a repository, and its exit status."""
 
     REFUSING = "refused =\n    1 ∷ 4 ∷ 2000 ∷ 1600 ∷ []\n" + (
-        "refusing-examples =\n    refusing 13 refused 0 0 0 ∷ []\n"
+        "refusing_examples =\n    refusing 13 refused 0 0 0 ∷ []\n"
     )
 
     def compared(self, figures, asked, examples, pastes=Pastes.TEXT.encode(), written=Writes.TEXT.encode()):

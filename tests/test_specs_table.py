@@ -16,53 +16,57 @@ import specs_table
 from believed import book, closure, contracts, definitions
 
 LOW = """// A low crate.
-ghost use Rattle·low·specs.specs.Told.{told, Sort};
+#![tactic(auto)]
+ghost use Rattle.low.specs.Told.{told, Sort};
 mod inside;
 mod shared;
 pub mod open;
 pub use shared::handed_on;
 
 // private_word stands in a comment
-pub fn asked(n: u64) -> u64
-    requires { ⌜ Reached (Sort n) ⌝ }
-    ensures { λ r. ⌜ r ≡ told n ⌝ }
+#[tactic(auto, unfolding(crate::specs::Told::told))]
+pub fn asked<R: Read>(n: &mut R) -> u64
+    requires { Reached (Sort n.now) }
+    ensures value { result ≡ told n.now }
+    ensures { n.new ≡ n.old }
 {
     n
 }
 
 fn hidden(n: u64) -> u64
-    ensures { λ r. ⌜ r ≡ asks n ⌝ }
+    ensures { result ≡ asks n }
 {
     n
 }
 """
 INSIDE = """// A private module.
-ghost use Rattle·low·specs.specs.inner.Asks.{asks};
-pub fn helper(n: u64) -> u64
-    ensures { λ r. ⌜ r ≡ asks n ⌝ }
+ghost use Rattle.low.specs.inner.Asks.{asks};
+pub fn helper(n: u64) -> [u64; 2]
+    ensures { result ≡ asks n }
 { n }
 """
 SHARED = """// A private module, one function of which is handed on.
-ghost use Rattle·low·specs.specs.Told.{handed};
-ghost use Rattle·low·specs.specs.inner.Asks.{asks};
+ghost use Rattle.low.specs.Told.{handed};
+ghost use Rattle.low.specs.inner.Asks.{asks};
 pub fn handed_on(n: u64) -> u64
-    ensures { λ r. ⌜ r ≡ handed n ⌝ }
+    ensures { result ≡ (handed n).asks }
 { n }
 
 pub fn kept(n: u64) -> u64
-    ensures { λ r. ⌜ r ≡ asks n ⌝ }
+    ensures { result ≡ asks n }
 { n }
 """
 OPEN = """// A public module.
-ghost use Rattle·low·specs.specs.Told as t;
-pub fn ask_open(n: u64) -> u64
-    ensures { λ r. ⌜ r ≡ t.openly n ⌝ }
+ghost use Rattle.low.specs.Told as t;
+#[unsafe(no_mangle)]
+pub extern "C" fn ask_open(n: u64) -> u64
+    ensures { result ≡ t.openly n }
 { n }
 """
 TOLD = """-- What is told.
 -- Assumes nothing.
-use Prim.Native.Nat.{ℕ, _+_}
-use lib.ListN.{take}
+use Rattle.std.specs.Prelude.{ℕ, ◌+◌}
+use Rattle.std.specs.List.{take}
 
 -- 01, The sheet: what is told
 unfoldable pub told : ℕ → ℕ
@@ -75,8 +79,8 @@ abbrev pub twice : ℕ → ℕ
 twice n = n ⊕ n
 
 -- No part of the paper: an operator
-infix 80 _⊕_
-abbrev pub _⊕_ : ℕ → ℕ → ℕ
+infix 80 ◌⊕◌
+abbrev pub ◌⊕◌ : ℕ → ℕ → ℕ
 a ⊕ b = a + b
 
 -- 01, Wrong turns and The sheet: sorts
@@ -93,16 +97,16 @@ abbrev pub handed : ℕ → ℕ
 handed n = take n
 """
 ASKS = """-- What private functions ask.
-use Rattle·low·specs.specs.Told.{told}
+use Rattle.low.specs.Told.{told}
 
 -- asked by private functions alone
 abbrev pub asks : ℕ → ℕ
 asks n = told n
 """
 PROGRAM = """// A program.
-ghost use Rattle·low.specs.Told.{even};
+ghost use Rattle.low.specs.Told.{even};
 fn put(n: u64) -> u64
-    ensures { λ r. ⌜ even ≡ r ⌝ }
+    ensures* { ⌜ even.kind ≡ result ⌝ }
 { n }
 
 fn main() {
@@ -171,13 +175,13 @@ class Closure(Made):
         self.assertEqual(([each.function for each in counted], strange), (functions, []))
         by = closure.reached(found, counted)
         counts = {each.name: each.count for each in found if (each.module, each.name) in by}
-        self.assertEqual(counts, {"told": 3, "twice": 2, "_⊕_": 3, "Sort": 3, "openly": 2, "handed": 2})
+        self.assertEqual(counts, {"told": 3, "twice": 2, "◌⊕◌": 3, "Sort": 3, "openly": 2, "handed": 2})
 
     def test_places(self):
         """A comment's place, and its mark."""
         found = definitions.all_definitions(definitions.read_all(self.repository()))
         places = {each.name: closure.place_of(each) for each in found}
-        wanted = {"told": "The sheet", "twice": "", "_⊕_": "", "Sort": "Wrong turns", "asks": None}
+        wanted = {"told": "The sheet", "twice": "", "◌⊕◌": "", "Sort": "Wrong turns", "asks": None}
         self.assertEqual(places, {**wanted, "openly": "Member, line, floor", "handed": "Buyer's note"})
 
     def test_requests(self):
@@ -209,8 +213,8 @@ class Faults(Made):
         root = self.repository()
         status, printed = self.look(root, False)
         self.assertEqual(status, 0)
-        self.assertIn("| `low/specs/Told.antt` | 15 | `told` `twice` `_⊕_` `Sort` `openly` `handed` |", printed)
-        self.assertIn("Of the kit they use Prim.Native.Nat: _+_ ℕ; lib.ListN: take.", printed)
+        self.assertIn("| `low/specs/Told.antt` | 15 | `told` `twice` `◌⊕◌` `Sort` `openly` `handed` |", printed)
+        self.assertIn("Of the kit they use std.List: take; std.Prelude: ℕ ◌+◌.", printed)
         status, printed = self.look(root, True)
         self.assertEqual((status, len(printed)), (0, 1))
         self.assertTrue(printed[0].startswith("what must be believed: 15 lines, 6 definitions reached"), printed)
@@ -221,14 +225,14 @@ class Faults(Made):
 
     def test_private_reached(self):
         """A definition of another shelf that a contract, or a believed definition, reaches."""
-        code = LOW.replace("≡ told n ⌝", "≡ asks (told n) ⌝")
-        brought = "ghost use Rattle·low·specs.specs.inner.Asks.{asks};"
+        code = LOW.replace("≡ told n.now }", "≡ asks (told n.now) }")
+        brought = "ghost use Rattle.low.specs.inner.Asks.{asks};"
         code = code.replace("Told.{told, Sort};", f"Told.{{told, Sort}};\n{brought}")
         where = "low/specs/inner/Asks.antt: `asks` is reached by low::asked"
         wrong = [f"{where}, but stands in specs/inner", "begins with no place in the paper"]
         self.said(wrong, "crates/low/src/lib.rt", code)
-        brought = "use Rattle·low·specs.specs.inner.Asks.{asks}"
-        other = TOLD.replace("use lib.ListN.{take}", brought).replace("take n", "asks n")
+        brought = "use Rattle.low.specs.inner.Asks.{asks}"
+        other = TOLD.replace("use Rattle.std.specs.List.{take}", brought).replace("take n", "asks n")
         self.said(["reached by `handed` of low, but stands in specs/inner", "no place"], "crates/low/specs/Told.antt", other)
 
     def test_theorem_asked(self):
@@ -243,11 +247,12 @@ class Faults(Made):
 
     def test_contracts(self):
         """A reachable function without `ensures`, and one that asks for something else, or for more, than `Reached`."""
-        silent = OPEN.replace("    ensures { λ r. ⌜ r ≡ t.openly n ⌝ }\n", "")
+        silent = OPEN.replace("    ensures { result ≡ t.openly n }\n", "")
         status, printed = self.complained("crates/low/src/open.rt", silent)
         self.assertEqual((status, printed[0]), (1, "low::open::ask_open can be reached, and says nothing of what it gives"))
-        for asked in ("Sort n", "Reached (Sort n) × (n ≤ 1)", "(n ≤ 1) × Reached (Sort n)"):
-            code = LOW.replace("⌜ Reached (Sort n) ⌝", f"⌜ {asked} ⌝")
+        more = ("Sort n", "Reached (Sort n) × (n ≤ 1)", "(n ≤ 1) × Reached (Sort n)", "(n ≤ 1) → Reached n", "Reached n ↔ n")
+        for asked in more:
+            code = LOW.replace("{ Reached (Sort n.now) }", f"{{ {asked} }}")
             self.said(["low::asked can be reached, and asks more"], "crates/low/src/lib.rt", code)
 
     def test_unreached(self):
@@ -268,17 +273,21 @@ class Faults(Made):
 
     def test_not_understood(self):
         """A line of definitions or of code that is not understood is said, and not passed over."""
-        told, code, lists = "crates/low/specs/Told.antt", "crates/low/src/lib.rt", "lib.ListN"
-        for used in (lists, "lib.{ListN.take}", f"{lists}.{{", f"{lists}.{{*}}", f"{lists}.{{take}}  -- it"):
+        told, code, lists = "crates/low/specs/Told.antt", "crates/low/src/lib.rt", "Rattle.std.specs.List"
+        proofs, all_of = "Rattle.low.proofs.Told.{told}", "Rattle.low.specs.{Told as t}"
+        forms = (lists, "Rattle.std.{List.take}", f"{lists}.{{", f"{lists}.{{*}}", f"{lists}.{{take}}  -- it", proofs, all_of)
+        for used in forms:
             wrong = f"low/Told.antt:4: not understood, so what it reaches is not seen: use {used}"
             self.said([wrong], told, TOLD.replace(f"use {lists}.{{take}}", f"use {used}"))
         for line in ("20 lines", "handed 0 = take 0", "mutual", "axiom a : ℕ", "pub f {l} : ℕ", "pub f :"):
             self.said(["not understood"], told, f"{TOLD}\n{line}\n")
-        for line in (f"ghost use {lists}.{{", f"  ghost use {lists};", "pub use inside::*;", "pub use inside::helper as h;"):
+        ghosts = (f"ghost use {lists}.{{", f"  ghost use {lists};", f"ghost use {proofs};", "    ghost top: { asks 0 }")
+        for line in (*ghosts, "pub use inside::*;", "pub use inside::helper as h;"):
             self.said(["not understood"], code, LOW.replace("mod inside;\n", f"mod inside;\n{line}\n"))
-        self.said(["not understood"], code, LOW + "\npub const fn one() {}\n")
-        whole = "Rattle·low·specs.specs.inner.Asks.asks"
-        self.said(["not understood"], code, LOW.replace("≡ told n ⌝", f"≡ {whole} (told n) ⌝"))
+        for function in ("pub const fn one() {}", "pub fn one<F: Fn(u64)>(f: F) {}"):
+            self.said(["not understood"], code, f"{LOW}\n{function}\n")
+        whole = "Rattle.low.specs.inner.Asks.asks"
+        self.said(["not understood"], code, LOW.replace("≡ told n.now }", f"≡ {whole} (told n.now) }}"))
         self.said(["not understood"], told, TOLD.replace("openly n = n", f"openly n = n\n    + {whole} n"))
 
     def test_stored_list(self):

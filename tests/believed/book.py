@@ -5,6 +5,7 @@ import textwrap
 from dataclasses import dataclass
 
 from .closure import REQUESTS, SECTIONS, place_of, words
+from .definitions import WHOLE_PATH
 
 BOOK = "docs/STATEMENTS.md"
 BEGIN, END = "<!-- believed -->\n", "<!-- end of believed -->\n"
@@ -97,15 +98,13 @@ def strange_lines(text):
 
 def of_the_kit(definitions, contracts, by):
     """The names of the kit that believed definitions and contracts use, by module."""
-    used = {}
+    used, own = {}, {each.crate for each in definitions} | {each.function.partition("::")[0] for each in contracts}
     texts = [(each.names, "\n".join(each.lines)) for each in definitions if (each.module, each.name) in by]
     for names, text in texts + [(each.names, each.text) for each in contracts]:
         for word in words(text):
-            for name in (word.rstrip("."), f"_{word}_"):
-                module, single = names.single.get(name, ("", ""))
-                ours = "/" in module and not module.startswith(("bytes/", "io/", "libc/"))
-                if module and not ours:
-                    used.setdefault(module.replace("/", "."), set()).add(single)
+            module, single = names.single.get(word.partition(".")[0], ("", ""))
+            if module and module.partition("/")[0] not in own:
+                used.setdefault(module.removeprefix(WHOLE_PATH).replace("/", "."), set()).add(single)
     return used
 
 

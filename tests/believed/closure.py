@@ -2,7 +2,7 @@
 
 import re
 
-from .definitions import SHELVES
+from .definitions import SHELVES, parts
 
 # The sections of paper 01, as places name them.
 SECTIONS = (
@@ -34,23 +34,20 @@ class Index:
     """All definitions by their module and name; a constructor stands for its data type."""
 
     def __init__(self, definitions):
-        self.named = {}
+        self.named, self.written = {}, {}  # by their names, and as they are written where they are used
         for each in definitions:
             for name in [each.name, *each.constructors]:
                 self.named[each.module, name] = each
+                self.written.update({(each.module, part): each for part in parts(name)})
 
     def meant(self, word, names, module=None):
-        """The definition that a word means in a file, its operators written between their arguments; none for all else."""
-        if word.startswith("."):
-            return None  # a field
-        word = word.rstrip(".")  # a variable that λ binds
-        for name in (word, f"_{word}_"):
-            if (module, name) in self.named:
-                return self.named[module, name]
-            if name in names.single:
-                return self.named.get(names.single[name])
-        outer, _, inner = word.partition(".")
-        return self.named.get((names.modules.get(outer), inner))
+        """The definition that a word means in a file: what stands before its fields, or a name of a module; else none."""
+        name, *fields = word.split(".")  # no name before the field of a term in brackets, no field after what λ binds
+        if (module, name) in self.written:
+            return self.written[module, name]
+        if name in names.single:
+            return self.named.get(names.single[name])
+        return self.named.get((names.modules.get(name), fields[0])) if fields else None
 
 
 def reached(definitions, contracts):

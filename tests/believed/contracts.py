@@ -5,9 +5,10 @@ from dataclasses import dataclass
 
 from .definitions import WHOLE_PATH, Names, crates
 
-FUNCTION = re.compile(r"(?m)^ *(pub )?(?:extern \"C\" )?fn (\w+)\(")
+FUNCTION = re.compile(r"(?m)^ *(pub )?(?:extern \"C\" )?fn (\w+)(?:<[^(]*>)?\(")
 ANY_FUNCTION = re.compile(r"\bfn\s+\w+")
-CLAUSE = re.compile(r"[^{;]*?\b(requires|ensures)\b[^{]*")
+CLAUSE = re.compile(r"(?:[^{;]|; [\w:]+\])*?\b(requires|ensures)\b[^{]*")
+REACHED = re.compile(r"\{\s*Reached (?:[\w.]+|\([^×⊎→↔∗]*\))\s*\}")  # all that a reachable function may ask
 MODULE = re.compile(r"(?m)^(pub )?mod (\w+);")
 USED = re.compile(r"(?m)^pub use (\w+)::(?:\{([\w, ]*)\}|(\w+));")
 TRIALS = "trial"  # how the names of programs begin that only try the others
@@ -128,6 +129,6 @@ def complaints(contracts, strange):
         said += [
             f"{each.function} can be reached, and asks more of its caller than a column that is reached"
             for text in asked
-            if each.reachable and not re.fullmatch(r"\{ ⌜ Reached [^×⊎→]* ⌝ \}", text)
+            if each.reachable and not REACHED.fullmatch(text)
         ]
     return said

@@ -12,20 +12,32 @@ USE = re.compile(r"(?:ghost )?use ([^\s{}*]+)(?:\.\{([^{}.]*)\}| as (\w[\w-]*));
 DATA = re.compile(r"(?:pub )?(data|record) (\S+)")
 SIGNATURE = re.compile(r"(?:(?:unfoldable|abbrev) )?(?:pub )?(\S+) : ")
 CONSTRUCTOR = re.compile(r"  (\S+) : ")
-WHOLE_PATH = "Rattle·"
-OF_A_CRATE = re.compile(r"Rattle·(\w+?)(?:·specs)?\.specs\.(.+)$")
+WHOLE_PATH = "Rattle."
+OF_A_CRATE = re.compile(r"Rattle\.(\w+)\.specs\.(.+)$")
+KIT = ("std", "bytes", "io")  # the libraries of the kit of which definitions may use all; of others what stands in specs/
+ARGUMENT = "◌"  # what stands for an argument in the name of an operator
 
 
 def crates(root):
     """The crates in the order of crates.txt, lowest first."""
     lines = (root / "crates.txt").read_text(encoding="utf-8").splitlines()
-    return [line.split(":")[0] for line in lines if line and not line.startswith("#")]
+    return [line.split(":")[0].split()[0] for line in lines if line and not line.startswith("#")]
 
 
 def module(path):
-    """A module's path as `column/inner/Sound`; one of the kit or of declared types stays as it is."""
+    """A module's path as `column/inner/Sound`, or `std/Prelude`; one that is not below some specs/ stays as it is."""
     found = OF_A_CRATE.match(path)
     return f"{found[1]}/{found[2].replace('.', '/')}" if found else path
+
+
+def parts(name):
+    """How a name is written where it is used: itself, or the parts of an operator, which stand between its arguments."""
+    return [part for part in name.split(ARGUMENT) if part]
+
+
+def is_read(path):
+    """Whether a path is of the kit or of some specs/: what stands in a crate's proofs/ is not seen."""
+    return not path.startswith(WHOLE_PATH) or path.split(".")[1] in KIT or bool(OF_A_CRATE.match(path))
 
 
 class Names:
@@ -38,11 +50,12 @@ class Names:
         """Takes a `use` line; whether it is one that is understood."""
         found = USE.fullmatch(line)
         path, names, other = found.groups() if found else ("", "*", None)
-        if "*" in [word.strip() for word in (names or "").split(",")]:
+        if "*" in [word.strip() for word in (names or "").split(",")] or not is_read(path):
             return False
         for word in names.split(",") if names else []:
             name, _, local = word.strip().partition(" as ")
-            self.single[(local or name).strip()] = (module(path), name.strip())
+            for part in parts((local or name).strip()):
+                self.single[part] = (module(path), name.strip())
         if other:
             self.modules[other] = module(path)
         return True
@@ -90,7 +103,7 @@ def begun(line):
 
 def is_clause(line, name):
     """Whether a line goes on with a definition: it is indented, or a clause of its function, also of an operator."""
-    return line.startswith(" ") or name in line.split() or (name.startswith("_") and name.strip("_") in line.split())
+    return line.startswith(" ") or not set(parts(name)).isdisjoint(line.split())
 
 
 class Reader:

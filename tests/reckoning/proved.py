@@ -196,9 +196,9 @@ def complaints_of_pins(text, lists=""):
 
 
 def refusing_of(text, lists=""):
-    """The rows of the definition `refusing-examples`: code, numbers of the entries, and what is passed over."""
+    """The rows of the definition `refusing_examples`: code, numbers of the entries, and what is passed over."""
     rows = []
-    for item in items_of(text, "refusing-examples"):
+    for item in items_of(text, "refusing_examples"):
         code, name, *told = matched(r"refusing N (\S+) N N N", item).groups()
         rows.append((int(code), numbers_of(text, lists, name), Passed(*(int(number) for number in told))))
     return rows
@@ -270,7 +270,7 @@ def pattern_of(word):
 
 def told_of(item):
     """What a row of writing tells, as the reckoning has it: a text with | for the newline, a refused effect, or 12."""
-    if item == "noRoom":
+    if item == "no_room":
         return writes.Written(12)
     if item.startswith("(puts "):
         (text,) = re.fullmatch(r'\(puts "([^"]*)"\)', item).groups()
@@ -281,7 +281,7 @@ def told_of(item):
 
 def writes_of(text):
     """The rows of the definition `examples` of writing: code, lines, six doubles, bytes of the buffer, what is told."""
-    form = rf'example N ({LISTS}) \(six {" ".join([DOUBLE] * 6)}\) N (noRoom|\(puts "[^"]*"\)|\(refuses .*\))'
+    form = rf'example N ({LISTS}) \(six {" ".join([DOUBLE] * 6)}\) N (no_room|\(puts "[^"]*"\)|\(refuses .*\))'
     rows = []
     for item in items_of(text, "examples"):
         code, lines, *doubles, room, told = matched(form, item).groups()
