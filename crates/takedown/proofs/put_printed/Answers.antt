@@ -2,7 +2,6 @@
 use Rattle.refusal.proofs.Said.{positive}
 use Rattle.report.proofs.Prints.{read_front, refused_front}
 use lib.ListN.{take}
-use borrow.Author.Rules.{rules}
 use Rattle.takedown.proofs.put_printed.Goals as goal
 
 pub slice_bounds-report-end : goal.slice_bounds-report-end

@@ -1,5 +1,4 @@
 -- `trial_sheet::answer_back` meets its contract: the column of a sheet that is read is reached. Assumes nothing.
-use borrow.Author.Rules.{rules}
 use Rattle.trial_sheet.proofs.answer_back.Goals as goal
 
 pub write_back-requires : goal.write_back-requires

@@ -7,7 +7,6 @@ use borrow.Author.Tests.{leb-true}
 use Rattle.member.proofs.Tests.{passed}
 use Rattle.newtons.specs.Effect.{magnitude_of, limit}
 use Rattle.newtons.proofs.Values.{in_float_lem}
-use borrow.Author.Rules.{rules}
 use Rattle.trial_sheet.proofs.double_of.Goals as goal
 
 pub int_to_float-result : goal.int_to_float-result

@@ -1,7 +1,6 @@
 -- `trial_sheet::size_from` meets its contract: the number is cut before each digit. Assumes nothing.
 use Prim.Native.Nat.{◌-◌}
 use lib.ListN.{length}
-use borrow.Author.Rules.{rules}
 use Rattle.trial_sheet.proofs.size_from.Given as goal
 
 abbrev pub decreases-loop-i : goal.decreases-loop-i

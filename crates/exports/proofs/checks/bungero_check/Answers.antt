@@ -4,7 +4,6 @@ use lib.Ieee.{of_bits}
 use Rattle.effects.specs.declared.Checked.{Checked}
 use Rattle.effects.specs.Check.{said_checked}
 use Rattle.exports.specs.Exported.{handed_out, shown_checked}
-use borrow.Author.Rules.{rules}
 use Rattle.exports.proofs.checks.bungero_check.Goals as goal
 
 pub returns-in-Whole : goal.returns-in-Whole

@@ -3,7 +3,6 @@ use mathlib.Core.Path.{sym, ◌∙◌, ap}
 use Rattle.figure.specs.declared.Asked.{Asked}
 use Rattle.figure.specs.Asked.{said_working}
 use Rattle.exports.specs.Exported.{shown_of}
-use borrow.Author.Rules.{rules}
 use Rattle.exports.proofs.columns.bungero_ask.Goals as goal
 
 pub returns-in-Gives : goal.returns-in-Gives

@@ -4,7 +4,6 @@ use lib.Ieee.{of_bits}
 use Rattle.combination.specs.declared.Combined.{Combined}
 use Rattle.combination.specs.Combine.{said_combined}
 use Rattle.exports.specs.Exported.{shown_combined}
-use borrow.Author.Rules.{rules}
 use Rattle.exports.proofs.combinations.bungero_combine.Goals as goal
 
 pub returns-in-Governs : goal.returns-in-Governs

@@ -3,7 +3,6 @@ use mathlib.Core.Path.{sym, ap}
 use Rattle.records.specs.declared.Listed.{Listed}
 use Rattle.records.specs.Listed.{said_listed}
 use Rattle.exports.specs.Exported.{shown_listed}
-use borrow.Author.Rules.{rules}
 use Rattle.exports.proofs.listed.listed_out.Goals as goal
 
 pub returns-in-Gives : goal.returns-in-Gives

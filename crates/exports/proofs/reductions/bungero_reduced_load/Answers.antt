@@ -4,7 +4,6 @@ use Prim.Native.Nat.{ℕ}
 use Rattle.refusal.specs.declared.Answer.{Answer}
 use Rattle.refusal.specs.Said.{refused, said_answer, nothing}
 use Rattle.exports.specs.Exported.{shown_reduced}
-use borrow.Author.Rules.{rules}
 use Rattle.exports.proofs.reductions.bungero_reduced_load.Goals as goal
 
 pub returns-in-Gives : goal.returns-in-Gives

@@ -1,7 +1,6 @@
 -- `report::lines::put_floor_line` meets its contract: the fields one after another. Assumes nothing.
 use Rattle.text.proofs.Puts.{puts_then}
 use Rattle.report.specs.Report.{floor_line}
-use borrow.Author.Rules.{rules}
 use Rattle.report.proofs.lines.put_floor_line.Goals as goal
 
 pub returns : goal.returns

@@ -3,7 +3,6 @@ use mir.Syntax.{w64}
 use mir.ValLaws.{to_z-of_z}
 use Rattle.text.proofs.Puts.{puts_then}
 use Rattle.report.specs.Report.{governing_line}
-use borrow.Author.Rules.{rules}
 use Rattle.report.proofs.lines.put_governing_line.Goals as goal
 
 pub returns : goal.returns

@@ -1,7 +1,6 @@
 -- `report::lines::put_refusal` meets its contract. Assumes nothing.
 use Rattle.text.proofs.Puts.{puts_then}
 use Rattle.report.specs.Report.{refusal_line}
-use borrow.Author.Rules.{rules}
 use Rattle.report.proofs.lines.put_refusal.Goals as goal
 
 pub returns : goal.returns

@@ -10,7 +10,6 @@ use mir.ValLaws.{to_z_pos}
 use Rattle.sheet.proofs.Kept.{each_within}
 use Rattle.report.specs.Report.{effects_with}
 use Rattle.report.proofs.Live.{effect_kept}
-use borrow.Author.Rules.{rules}
 use Rattle.report.proofs.takedown.newtons_with.Goals as goal
 
 pub returns : goal.returns

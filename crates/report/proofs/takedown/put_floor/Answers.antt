@@ -2,7 +2,6 @@
 use borrow.Author.Tests.{eq-eqb, ne_eqb}
 use Rattle.text.specs.Put.{puts}
 use Rattle.report.specs.inner.Table.{line_of}
-use borrow.Author.Rules.{rules}
 use Rattle.report.proofs.takedown.put_floor.Goals as goal
 
 pub returns-then-working-eq0 : goal.returns-then-working-eq0

@@ -1,12 +1,10 @@
 -- `report::takedown::put_floors` meets its contract: the loop has put the lines of the floors so far. Assumes nothing.
 use mathlib.Core.Path.{◌≡◌, refl}
-use Prim.Native.Nat.{◌-◌, ◌≤◌}
 use native.Mathlib.Numerals.{add-one}
 use native.Mathlib.Omega.{arith}
-use Rattle.text.specs.Put.{out, puts}
-use Rattle.text.proofs.Puts.{puts_then, puts_length}
+use Rattle.text.specs.Put.{puts}
+use Rattle.text.proofs.Puts.{puts_then}
 use Rattle.report.specs.inner.Table.{table_lines}
-use borrow.Author.Rules.{rules}
 use Rattle.report.proofs.takedown.put_floors.Goals as goal
 
 pub loop-floors-init : goal.loop-floors-init

@@ -1,12 +1,8 @@
 -- `report::takedown::put_floors` meets its contract: the loop has put the lines of the floors so far. Assumes nothing.
-use mathlib.Core.Path.{◌≡◌, refl}
+use mathlib.Core.Path.{◌≡◌}
 use Prim.Native.Nat.{◌-◌, ◌≤◌}
-use native.Mathlib.Numerals.{add-one}
-use native.Mathlib.Omega.{arith}
 use Rattle.text.specs.Put.{out, puts}
-use Rattle.text.proofs.Puts.{puts_then, puts_length}
 use Rattle.report.specs.inner.Table.{table_lines}
-use borrow.Author.Rules.{rules}
 use Rattle.report.proofs.takedown.put_floors.Given as goal
 
 abbrev pub invariant-loop-floors : goal.invariant-loop-floors

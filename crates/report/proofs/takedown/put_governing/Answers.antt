@@ -10,7 +10,6 @@ use Rattle.combination.specs.Combine.{governing, governed, said_governed}
 use Rattle.combination.proofs.Answers.{newtons_governed}
 use Rattle.report.specs.Report.{effects_with, governing_lines}
 use Rattle.report.proofs.Live.{seven_with}
-use borrow.Author.Rules.{rules}
 use Rattle.report.proofs.takedown.put_governing.Goals as goal
 use Rattle.report.proofs.takedown.put_governing.Goals.{After-govern-governed, In-Governs}
 

@@ -8,7 +8,6 @@ use Rattle.column.specs.Column.{column_from}
 use Rattle.report.specs.Report.{live_of, effects_of, takedown_of}
 use Rattle.report.specs.inner.Table.{sheet_from}
 use Rattle.report.proofs.Table.{table_lines_lem}
-use borrow.Author.Rules.{rules}
 use Rattle.report.proofs.takedown.put_takedown.Goals as goal
 use Rattle.report.proofs.takedown.put_takedown.Goals.{After-live_effect-live, After-work_out-lowest, Start}
 
