@@ -9,6 +9,9 @@ pub mod signed;
 // The greatest effect taken, in newtons, either way.
 const LIMIT: u64 = 1_000_000_000_000;
 
+// The exponent in the bits of an infinity.
+const INFINITE: u64 = 2047;
+
 // What a double is, as 64 bits can hold it: a whole number below 2^53 in size, one of 2^53 or more, or
 // not a whole number.
 #[derive(Clone, Copy)]
@@ -51,8 +54,7 @@ pub fn value_of(x: f64) -> Held
         // Above 0 and below 1 in size.
         return Held::NotWhole;
     }
-    let is_infinite = exponent == 2047;
-    if is_infinite {
+    if exponent == INFINITE {
         // An infinity.
         return Held::NotWhole;
     }

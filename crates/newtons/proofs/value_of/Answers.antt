@@ -73,14 +73,14 @@ returns-then-exponent-lt1023 c =
     let t = (goal.at.returns-then-exponent-lt1023 c).Start in
     sym (held_none (below_one (fields t) (not_zero (bits t) c.if-is_zero.false) c.if-exponent-lt1023.true))
 
-pub returns-then-is_infinite : goal.returns-then-is_infinite
+pub returns-then-exponent-eq-INFINITE : goal.returns-then-exponent-eq-INFINITE
 unfolding said_held number_of
-returns-then-is_infinite c = sym (held_none (infinite (fields (goal.at.returns-then-is_infinite c).Start) c.if-is_infinite.true))
+returns-then-exponent-eq-INFINITE c = sym (held_none (infinite (fields (goal.at.returns-then-exponent-eq-INFINITE c).Start) c.if-exponent-eq-INFINITE.true))
 
 pub returns-then-is_large : goal.returns-then-is_large
 unfolding said_held number_of
 returns-then-is_large c =
-    sym (held_large (large_value (fields (goal.at.returns-then-is_large c).Start) c.if-is_large.true c.if-is_infinite.false) (large_size _ _ (omega (arith, c.if-is_large.true))))
+    sym (held_large (large_value (fields (goal.at.returns-then-is_large c).Start) c.if-is_large.true c.if-exponent-eq-INFINITE.false) (large_size _ _ (omega (arith, c.if-is_large.true))))
 
 pub nonzero_rem-has_fraction : goal.nonzero_rem-has_fraction
 nonzero_rem-has_fraction c = one-positive _ (omega arith)
