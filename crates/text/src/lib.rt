@@ -55,7 +55,8 @@ pub fn put_signed(buffer: &mut [u8], at: usize, n: i64) -> usize
     ensures { out buffer.new result ≡ puts buffer.old at (signed_parts n) }
 {
     let size = signed::magnitude(n);
-    if n < 0 {
+    let below = n < 0;
+    if below {
         let next = put_text(buffer, at, b"-");
         return put_decimal(buffer, next, size);
     }

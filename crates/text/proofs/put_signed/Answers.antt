@@ -17,12 +17,12 @@ same c = to_z-of_z w64 c.args.n c.ranges.n
 size_is : (c : After-magnitude-size) → nat_abs c.args.n ≡ c.magnitude-size.result
 size_is c = sym (c.magnitude-size.ensures ∙ ap nat_abs (same c))
 
-pub returns-then-n-lt0 : goal.returns-then-n-lt0
-returns-then-n-lt0 c =
-    let below = signed_below c.args.n (ap (λ (z : ℤ). lt_z z (pos 0)) (sym (same (goal.at.returns-then-n-lt0 c).After-magnitude-size)) ∙ c.if-n-lt0.true) in
-    rw (below, size_is (goal.at.returns-then-n-lt0 c).After-magnitude-size) (puts_then _ _ _ _ c.put_text-next.ensures c.put_decimal.ensures)
+pub returns-then-below : goal.returns-then-below
+returns-then-below c =
+    let below = signed_below c.args.n (ap (λ (z : ℤ). lt_z z (pos 0)) (sym (same (goal.at.returns-then-below c).After-magnitude-size)) ∙ c.if-below.true) in
+    rw (below, size_is (goal.at.returns-then-below c).After-magnitude-size) (puts_then _ _ _ _ c.put_text-next.ensures c.put_decimal.ensures)
 
 pub returns : goal.returns
 returns c =
-    let above = signed_from_zero c.args.n (ap (λ (z : ℤ). lt_z z (pos 0)) (sym (same (goal.at.returns c).After-magnitude-size)) ∙ c.if-n-lt0.false) in
+    let above = signed_from_zero c.args.n (ap (λ (z : ℤ). lt_z z (pos 0)) (sym (same (goal.at.returns c).After-magnitude-size)) ∙ c.if-below.false) in
     rw (above, size_is (goal.at.returns c).After-magnitude-size) c.put_decimal-2.ensures
