@@ -10,6 +10,7 @@ import sys
 
 sys.dont_write_bytecode = True  # leave no .pyc behind
 
+import os
 import re
 from pathlib import Path
 
@@ -23,14 +24,15 @@ from believed.definitions import crates
 STANDING_FOR = re.compile(
     r"(?<![A-Za-z])(?:NAME|TOPIC|MODULE|FUNCTION|DEFINITION|WHAT|LABEL|COUNT|SECONDS|SEED|SHEET|NUMBER)(?![A-Za-z])|\*"
 )
-# Commands of the kit, and those of them that take a crate.
-COMMANDS = "check prove dev staticlib try must-fail ci goals mir fmt doc version selftest help".split()
-OF_A_CRATE = "check dev staticlib try must-fail goals mir".split()
+# Commands of the kit, those of them that take a crate, and what one can say of all crates.
+OF_A_CRATE = "check ci expand lib must-fail plant run test tidy try verdict".split()
+COMMANDS = [*OF_A_CRATE, *"all doc fmt help lemma names new seed selftest version".split()]
+OF_ALL = "check tidy test verdict".split()
 # Words of the kit, of Rust, of the shell and of C that documents use; and signs of the reckonings, as N and K.
 OF_OTHERS = set(
-    "antt bash cond file ensures fn ghost grep incremental let memcpy memset mod Need new old position printf python3 pub "
-    "requires rt run trusted u64 unfolding use Vec where write io specs Counts TMPDIR N K O C CR double class record abbrev "
-    "unfoldable".split()
+    "antt auto bash cond file ensures fn ghost grep incremental let memcpy memset mod new old position printf python3 pub "
+    "requires rt run tactic trusted u64 unfolding use Vec where write io specs Counts TMPDIR N K O C CR double class record "
+    "abbrev unfoldable".split()
 )
 # How a name is declared: in definitions and proofs, in Rattle and Rust, in C, in Python and in scripts; and a sheet's keys.
 DECLARED = {
@@ -44,7 +46,9 @@ DECLARED = {
     ".txt": r"\b([a-z]+)=",
 }
 PATH = re.compile(r"[\w.-]*/[\w./-]*$|[\w-]+\.(?:md|txt|antt|rt|rs|py|h|c|edit)$")
-NAME = re.compile(r"[^\W\d][\w·²-]*(?:'|ℤ)?")
+OPERATOR = r"◌[^\s◌]+◌"
+NAME = re.compile(rf"{OPERATOR}|[^\W\d][\w·²-]*(?:'|ℤ)?")
+MADE = re.compile(r"(?:crates/(\w+)/)?out(?:/(?:(\w+)|lib(\w+)\.a))?")  # where a program or a static library is built
 CODE = re.compile(r"`([^`]+)`")
 FILE_OF_A_CRATE = re.compile(r"\w+/(?:specs|proofs|src)/.*\.(?:antt|rt)")
 LONG = 60  # from this many characters on a sentence is looked for in other documents
@@ -56,10 +60,19 @@ def documents(root):
     return [root / "README.md", root / "CONTRIBUTING.md", *sorted((root / "docs").rglob("*.md"))]
 
 
+def everything(root):
+    """All files and folders of the repository, without what is built from them: target/, and out/ of each crate."""
+    found = []
+    for place, folders, files in os.walk(root):
+        folders[:] = sorted(set(folders) - {".git", "target", "out"})
+        found += [Path(place, name) for name in (*folders, *sorted(files))]
+    return found
+
+
 def sources(root):
     """The files in which names are declared; what is made up for trials of the scripts themselves is left out."""
     folders = ("crates", "plain", "bench", "bindings", "tests", "examples")
-    found = [file for folder in folders for file in sorted((root / folder).rglob("*")) if file.is_file()]
+    found = [file for folder in folders for file in everything(root / folder) if file.is_file()]
     return [file for file in found if file.suffix in DECLARED and not file.name.startswith("test_")]
 
 
@@ -81,22 +94,25 @@ def questions_of(file):
 
 def is_there(root, path):
     """Whether a path is one of the repository, from its root, from crates/ or from a crate, or a file's name alone."""
-    if STANDING_FOR.search(path):
+    if STANDING_FOR.search(path) or re.fullmatch(r"target(?:/[\w.-]+)?", path):
         return True
-    if path.startswith("target/bin/"):
-        return path.removeprefix("target/bin/") in crates(root)
-    if path.startswith("target/") or (root / path).exists() or (root / "crates" / path).exists():
+    if "out" in path.split("/"):
+        made = MADE.fullmatch(path)
+        named = {name for name in made.groups() if name} if made else set()
+        return bool(made) and len(named) < 2 and named <= set(crates(root))
+    if (root / path).exists() or (root / "crates" / path).exists():
         return True
-    return any(root.glob(f"crates/*/{path}")) or ("/" not in path and any(root.rglob(path)))
+    return any(root.glob(f"crates/*/{path}")) or ("/" not in path and any(each.name == path for each in everything(root)))
 
 
 def wrong_commands(root, code):
     """Commands of the kit that there are not, and crates that they are given."""
     said = []
     for command, given in re.findall(r"(?<![\w/-])rt ([a-z-]+)(?: (\w+))?", code):
+        known = crates(root) if command in OF_A_CRATE else OF_ALL if command == "all" else [given]
         if command not in COMMANDS:
             said.append(f"rt {command}")
-        elif command in OF_A_CRATE and given and not STANDING_FOR.search(given) and given not in crates(root):
+        elif given and not STANDING_FOR.search(given) and given not in known:
             said.append(f"rt {command} {given}")
     return said
 
@@ -106,7 +122,7 @@ def missing_in(root, code, names):
     said = wrong_commands(root, code)
     for word in re.sub(r"(?<![\w/-])rt [a-z-]+(?: \w+)?", "", code).split():
         bare = word.strip("(){}[],;:")
-        if STANDING_FOR.search(bare):
+        if STANDING_FOR.search(bare) or bare.startswith("--"):
             continue
         if PATH.search(bare) and not bare.startswith(("/", "-")):
             said += [] if is_there(root, bare.rstrip("/")) else [bare]
@@ -134,7 +150,7 @@ def wrong_pair(root, named, place):
     codes = [code for code in CODE.findall(place) if FILE_OF_A_CRATE.fullmatch(code)]
     files = [root / "crates" / code for code in codes]
     texts = [(file.read_text(encoding="utf-8"), file.suffix) for file in files if file.is_file()]
-    names = [name for name in CODE.findall(named) if texts and re.fullmatch(r"[^\W\d][\w·²-]*", name)]
+    names = [name for name in CODE.findall(named) if texts and re.fullmatch(rf"{OPERATOR}|[^\W\d][\w·²-]*", name)]
     lacking = [name for name in names if not any(defines(text, name, suffix) for text, suffix in texts)]
     return [f"`{name}` is not in {', '.join(codes)}" for name in lacking]
 

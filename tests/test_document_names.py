@@ -16,11 +16,14 @@ import document_names
 
 README = """# A repository
 
-    rt check low && bash tests/run < crates/low/specs/Told.antt
+    cd crates/low && rt check && bash tests/run < crates/low/specs/Told.antt
+    rt lib low && ls out/liblow.a && crates/low/out/low && gcc crates/low/out/liblow.a -L crates/low/out -o target/low
 
-`low` is told by `told` and `ask_open`; `low::open::ask_open(n)`, `open::ask_open` and `Answer` are in the code, and
-`tests/run` and [the promises](docs/PROMISES.md) are files; `rt dev NAME` and `crates/NAME/src/` stand for others.
+`low` is told by `told` and `ask_open`, joined by `◌⊕◌`; `low::open::ask_open(n)`, `open::ask_open` and `Answer` are in
+the code, and `tests/run` and [the promises](docs/PROMISES.md) are files; `rt ci NAME`, `rt all check` and
+`crates/NAME/src/` stand for others, and `rt check --only FUNCTION` for a part.
 """
+AFTER = README.count("\n") + 2  # the number of a line behind it
 PROMISES = """# Promises
 
 | function | promise | definition |
@@ -32,11 +35,13 @@ PROMISES = """# Promises
 | `told-law` | It holds. | `low/proofs/Told.antt` |
 """
 FILES = {
-    "crates.txt": "low:\n",
-    "crates/low/src/lib.rt": "// old_name is in a comment alone\npub fn asked(n: u64) {}\npub enum Answer { Gives(u64) }\n",
+    "crates.txt": "low staticlib:\n",
+    "crates/low/src/lib.rt": "// old_name is in a comment alone\npub fn asked<R>(n: u64) {}\npub enum Answer { Gives(u64) }\n",
     "crates/low/src/open.rt": "pub fn ask_open(n: u64) {}\n",
     "crates/low/specs/Told.antt": "-- old-law is stated in a comment alone\nabbrev pub told : ℕ → ℕ\ntold n = n\n",
+    "crates/low/specs/Joined.antt": "infix 80 ◌⊕◌\nabbrev pub ◌⊕◌ : ℕ → ℕ → ℕ\na ⊕ b = a + b\n",
     "crates/low/proofs/Told.antt": "pub told-law : told 0 ≡ 0\ntold-law = refl\n",
+    "crates/low/out/made/Built.antt": "pub built : told 0 ≡ 0\nbuilt = refl\n",
     "tests/run": "",
     "README.md": README,
     "CONTRIBUTING.md": "# Contributing\n",
@@ -74,23 +79,32 @@ class Documents(unittest.TestCase):
             ("`shut::ask_open`", "no `shut::ask_open`"),
             ("`low/specs/Asked.antt`", "no `low/specs/Asked.antt`"),
             ("`Asked.antt`", "no `Asked.antt`"),
+            ("`Built.antt`", "no `Built.antt`"),
+            ("`built`", "no `built`"),
+            ("`◌⊗◌`", "no `◌⊗◌`"),
             ("`rt prove-all`", "no `rt prove-all`"),
             ("`rt check lower`", "no `rt check lower`"),
+            ("`rt all fmt`", "no `rt all fmt`"),
             ("`stated`", "no `stated`"),
             ("`told` and ` alone", "a text in backticks goes over the end of the line"),
             ("[a page](docs/NONE.md)", "no docs/NONE.md"),
         ):
             status, printed = self.look(text=README + f"\nAlso {wrong}.\n")
             self.assertEqual((status, len(printed)), (1, 2), (wrong, printed))
-            self.assertEqual(printed[0], f"README.md:8: {said}")
+            self.assertEqual(printed[0], f"README.md:{AFTER}: {said}")
         for line, said in (
             ("bash tests/run_none | cat", "no tests/run_none"),
-            ("report=$(target/bin/lower < tests/run)", "no target/bin/lower"),
+            ("report=$(crates/lower/out/lower < tests/run)", "no crates/lower/out/lower"),
+            ("gcc crates/low/out/liblower.a", "no crates/low/out/liblower.a"),
+            ("gcc -L crates/lower/out", "no crates/lower/out"),
+            ("out/lower < tests/run", "no out/lower"),
+            ("cat crates/low/out/made/Built.antt", "no crates/low/out/made/Built.antt"),
+            ("target/bin/low < tests/run", "no target/bin/low"),
             ("rt chekc low && cat", "no rt chekc"),
-            ("rt staticlib lower", "no rt staticlib lower"),
+            ("rt lib lower", "no rt lib lower"),
         ):
             status, printed = self.look(text=README + f"\n    {line}\n")
-            self.assertEqual((status, printed[0]), (1, f"README.md:8: {said}"))
+            self.assertEqual((status, printed[0]), (1, f"README.md:{AFTER}: {said}"))
 
     def test_rows(self):
         """A definition or a law that is not in the file that its row names."""

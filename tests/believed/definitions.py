@@ -14,7 +14,7 @@ SIGNATURE = re.compile(r"(?:(?:unfoldable|abbrev) )?(?:pub )?(\S+) : ")
 CONSTRUCTOR = re.compile(r"  (\S+) : ")
 WHOLE_PATH = "Rattle."
 OF_A_CRATE = re.compile(r"Rattle\.(\w+)\.specs\.(.+)$")
-KIT = ("std", "bytes", "io")  # the libraries of the kit of which definitions may use all; of others what stands in specs/
+KIT = ("std", "io")  # the libraries of the kit of which definitions may use all; of others what stands in specs/
 ARGUMENT = "◌"  # what stands for an argument in the name of an operator
 
 
