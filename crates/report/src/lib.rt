@@ -30,7 +30,8 @@ pub fn report(text: &[u8], out: &mut [u8; ROOM]) -> Reported
     ensures prefix_len { IsPrefixLen result.length out.new }
 {
     let reading = sheet::read(text);
-    if 0 < reading.number {
+    let is_refused = 0 < reading.number;
+    if is_refused {
         return Reported {
             number: reading.number,
             line: reading.line,

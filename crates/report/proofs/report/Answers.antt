@@ -15,11 +15,11 @@ use borrow.Author.Rules.{rules}
 use Rattle.report.proofs.report.Goals as goal
 use Rattle.report.proofs.report.Goals.{After-put_takedown, After-put_takedown-arg-2-1}
 
-pub returns-then-reading-gt0 : goal.returns-then-reading-gt0
+pub returns-then-is_refused : goal.returns-then-is_refused
 unfolding fronted
-returns-then-reading-gt0 c =
+returns-then-is_refused c =
     let e = c.read-reading.ensures.0 in
-    let none = put_refused c.args.text.now e (omega (arith, c.if-reading-gt0.true)) in
+    let none = put_refused c.args.text.now e (omega (arith, c.if-is_refused.true)) in
     record {
       value = reported c.args.text.now e (ap length none);
       out_after = ap (λ (t : List ℕ). fronted t c.args.out.now) none;
@@ -27,7 +27,7 @@ returns-then-reading-gt0 c =
     }
 
 keeps : (c : After-put_takedown-arg-2-1) → Keeps c.read-reading.result.sheet
-keeps c = c.read-reading.ensures.1 (omega (arith, c.if-reading-gt0.false))
+keeps c = c.read-reading.ensures.1 (omega (arith, c.if-is_refused.false))
 
 pub put_takedown-requires : goal.put_takedown-requires
 put_takedown-requires c = keeps (goal.at.put_takedown-requires c).After-put_takedown-arg-2-1
@@ -46,7 +46,7 @@ pub returns : goal.returns
 returns c =
     let e = c.read-reading.ensures.0 in
     let w = whole (goal.at.returns c).After-put_takedown in
-    let put = put_read c.args.text.now e (omega (arith, c.if-reading-gt0.false)) in
+    let put = put_read c.args.text.now e (omega (arith, c.if-is_refused.false)) in
     record {
       value = reported c.args.text.now e (w.ends ∙ ap length put);
       out_after = w.is ∙ ap (λ (t : List ℕ). fronted t c.args.out.now) put;
