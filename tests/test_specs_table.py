@@ -281,8 +281,9 @@ class Faults(Made):
             self.said([wrong], told, TOLD.replace(f"use {lists}.{{take}}", f"use {used}"))
         for line in ("20 lines", "handed 0 = take 0", "mutual", "axiom a : ℕ", "pub f {l} : ℕ", "pub f :"):
             self.said(["not understood"], told, f"{TOLD}\n{line}\n")
-        ghosts = (f"ghost use {lists}.{{", f"  ghost use {lists};", f"ghost use {proofs};", "    ghost top: { asks 0 }")
-        for line in (*ghosts, "pub use inside::*;", "pub use inside::helper as h;"):
+        brought = (f"ghost use {lists}.{{", f"  ghost use {lists};", f"ghost use {proofs};")
+        facts = ("    ghost top: { asks 0 }", "    pub ghost is_low: { asks 0 },")
+        for line in (*brought, *facts, "pub use inside::*;", "pub use inside::helper as h;"):
             self.said(["not understood"], code, LOW.replace("mod inside;\n", f"mod inside;\n{line}\n"))
         for function in ("pub const fn one() {}", "pub fn one<F: Fn(u64)>(f: F) {}"):
             self.said(["not understood"], code, f"{LOW}\n{function}\n")

@@ -67,7 +67,7 @@ class Source:
 
     def __init__(self, file):
         self.text, self.names = without_comments(file.read_text(encoding="utf-8")), Names()
-        ghosts = [line for line in self.text.splitlines() if re.match(r"\s*ghost\b", line)]
+        ghosts = [line for line in self.text.splitlines() if re.match(r"\s*(?:pub )?ghost\b", line)]
         self.strange = [f"{file.name}: {line.strip()}" for line in ghosts if not self.names.take(line)]
         handed = re.findall(r"\bpub\s+use\b[^;]*;", self.text)
         self.strange += [f"{file.name}: {each}" for each in handed if not USED.fullmatch(each)]
