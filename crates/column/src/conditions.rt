@@ -11,6 +11,7 @@ const MOST_LINES: u64 = crate::LINES as u64;
 
 // The number of the first condition that holds for a line, 0 where none does, where a member holds so many
 // lines and the last one has this floor. None of paper 01's looks at the member.
+#[tactic(auto, unfolding(crate::specs::Accepted::first_condition, refusal::specs::Refusal::number_of))]
 pub fn first_condition(member: Member, count: u64, last: u64, line: Line) -> u64
     ensures { result ≡ first_condition member count last line }
 {

@@ -85,6 +85,7 @@ pub struct Pasted {
 }
 
 // The line that a number holds.
+#[tactic(auto, unfolding(crate::specs::Line::unpacked))]
 pub fn line_of(number: u64) -> Line
     ensures { result ≡ unpacked number }
 {
@@ -142,7 +143,7 @@ fn enter_below(held: &mut Places, member: Member, count: u16, last: u64, line: L
     requires reached { Reached (column_from member count held.old) }
     requires last_value { last ≡ last_floor (lines_of (column_from member count held.old)) }
     ensures held_after { joined_outcome member result held.new ≡ entered_of (column_from member count held.old) line }
-    ensures reached_2 { Reached (column_from member result.count held.new) }
+    ensures reached_after { Reached (column_from member result.count held.new) }
 {
     let number = conditions::first_condition(member, count as u64, last, line);
     if number != 0 {
@@ -172,6 +173,7 @@ pub fn enter_in(held: &mut Places, member: Member, count: u16, line: Line) -> Jo
 
 // The column with one line more; refused, with the column as it was, where a condition for entering
 // a line holds.
+#[tactic(auto, unfolding(crate::specs::Column::joined_outcome))]
 pub fn enter(column: Column, line: Line) -> Outcome
     requires { Reached column }
     ensures { (result ≡ entered_of column line) × Reached result.column }

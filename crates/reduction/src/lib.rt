@@ -25,6 +25,7 @@ pub struct InfluenceArea(pub u64);
 
 // The share of the formula lines at n floors and the influence area x, in twentieths, where it is
 // clamped; 0 where it is the root.
+#[tactic(auto, unfolding(crate::specs::Share::clamped_of, crate::specs::Share::clamped_share))]
 pub fn clamped_twentieths(floors: u64, x: InfluenceArea) -> u64
     ensures { result ≡ clamped_of floors x }
 {
@@ -35,6 +36,7 @@ pub fn clamped_twentieths(floors: u64, x: InfluenceArea) -> u64
 }
 
 // The share of class 2, and of class 1 above 5,000, in twentieths.
+#[tactic(auto, unfolding(crate::specs::Share::one_floor))]
 pub fn heavy_twentieths(floors: u64) -> u64
     ensures { result ≡ heavy_twentieths floors }
 {
@@ -45,6 +47,7 @@ pub fn heavy_twentieths(floors: u64) -> u64
 }
 
 // The share of a line that the formula is not for, in twentieths: public assembly has the whole load.
+#[tactic(auto, unfolding(crate::specs::Share::other_twentieths))]
 fn other_twentieths(class: u64, floors: u64) -> u64
     requires { between 1 3 class ≡ true }
     ensures { result ≡ other_twentieths class floors }

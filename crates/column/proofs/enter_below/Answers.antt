@@ -14,7 +14,6 @@ use Rattle.column.specs.inner.Sound.{InLimits}
 use Rattle.column.proofs.Columns.{column_more}
 use Rattle.column.proofs.Lines.{lines_length}
 use Rattle.column.proofs.Reach.{no_condition, entered_accepted, entered_refused, sound, reached_is, reached_entered}
-use borrow.Author.Rules.{rules}
 use Rattle.column.proofs.enter_below.Goals as goal
 use Rattle.column.proofs.enter_below.Goals.{After-first_condition-number, Else-number-ne0, Start}
 
@@ -56,7 +55,7 @@ unfolding joined_outcome
 returns-then-number-ne0 c =
     record {
       held_after = sym (entered_refused (col (goal.at.returns-then-number-ne0 c).Start) c.args.line _ (positive c.if-number-ne0.true) (sym (known (goal.at.returns-then-number-ne0 c).After-first_condition-number)));
-      reached_2 = c.requires.reached;
+      reached_after = c.requires.reached;
     }
 
 pub number_of-requires : goal.number_of-requires
@@ -77,5 +76,5 @@ returns c =
     rw (c.number_of.ensures, put t (fits (goal.at.returns c).Else-number-ne0).0) (sym (entered_accepted (col t) c.args.line (sym (known (goal.at.returns c).After-first_condition-number) ∙ c.if-number-ne0.false))) in
     record {
       held_after = all;
-      reached_2 = subst⁻¹ Reached (ap (λ (o : Outcome). o.column) all) (reached_entered c.args.line c.requires.reached);
+      reached_after = subst⁻¹ Reached (ap (λ (o : Outcome). o.column) all) (reached_entered c.args.line c.requires.reached);
     }

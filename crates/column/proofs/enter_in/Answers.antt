@@ -16,5 +16,5 @@ enter_below-requires c = record {
 pub returns : goal.returns
 returns c = record {
   held_after = c.enter_below.ensures.held_after;
-  reached = c.enter_below.ensures.reached_2;
+  reached = c.enter_below.ensures.reached_after;
 }

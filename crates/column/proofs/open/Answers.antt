@@ -1,7 +1,6 @@
 -- `column::open` meets its contract: a column without lines is reached where the opening has the number 0. Assumes nothing.
 use Rattle.column.specs.Column.{column_of, opened_outcome}
 use Rattle.column.proofs.Reach.{reached_empty}
-use borrow.Author.Rules.{rules}
 use Rattle.column.proofs.open.Goals as goal
 
 pub returns : goal.returns

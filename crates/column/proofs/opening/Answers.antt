@@ -3,7 +3,6 @@ use native.Mathlib.Omega.{arith}
 use Rattle.refusal.specs.Refusal.{number_of}
 use Rattle.member.proofs.Tests.{passed, failed, limits}
 use Rattle.column.specs.Column.{unopened, opened_outcome, opened_of}
-use borrow.Author.Rules.{rules}
 use Rattle.column.proofs.opening.Goals as goal
 
 pub returns-then-not-is_between : goal.returns-then-not-is_between

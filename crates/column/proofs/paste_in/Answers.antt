@@ -3,14 +3,14 @@ use mathlib.Core.Path.{◌≡◌, sym, ◌∙◌, ap, subst}
 use mathlib.Core.List.{List, ◌∷◌}
 use Prim.Native.Nat.{ℕ, ◌+◌, ◌-◌, ◌≤◌}
 use native.Mathlib.Omega.{arith}
-use lib.ListN.{length, drop}
+use lib.ListN.{drop}
 use Rattle.refusal.proofs.Said.{positive}
 use Rattle.column.specs.declared.Line.{Line}
 use Rattle.column.specs.declared.Column.{Column}
 use Rattle.column.specs.declared.Outcome.{Outcome}
 use Rattle.column.specs.Line.{entries_of}
 use Rattle.column.specs.Accepted.{last_floor}
-use Rattle.column.specs.Column.{lines_of, column_from, Reached, joined_outcome}
+use Rattle.column.specs.Column.{lines_of, column_from, joined_outcome}
 use Rattle.column.specs.Pasted.{pasted_from, pasted_of, pasted_outcome}
 use Rattle.column.proofs.Entries.{entries_end}
 use Rattle.column.proofs.Pasting.{pasted_next, pasted_end, pasted_none}
@@ -78,7 +78,7 @@ returns-then-joined-ne0 c =
     let then = column_from (lent t).member c.enter_below-joined.result.count c.enter_below-joined.new.held in record {
       held_after = ap (λ (n : ℕ). record { number = c.enter_below-joined.result.number; kept = n - (lent t).count; column = then }) (stays t some)
           ∙ (pasted_end _ _ _ _ _ c.enter_below-joined.ensures.held_after some ∙ onward t);
-      reached = c.enter_below-joined.ensures.reached_2;
+      reached = c.enter_below-joined.ensures.reached_after;
     }
 
 pub loop-at-preserved : goal.loop-at-preserved
@@ -92,7 +92,7 @@ loop-at-preserved c =
     let more : then.count - (lent t).count ≡ kept t + 1 = omega (arith, one) in (
       omega arith,
       omega (arith, one),
-      c.enter_below-joined.ensures.reached_2,
+      c.enter_below-joined.ensures.reached_after,
       sym (ap (λ (o : Outcome). last_floor (lines_of o.column)) j ∙ entered_last _ _ zero),
       ap (λ (k : ℕ). pasted_from k then (rest t)) more
           ∙ (pasted_next (kept t) (before t) c.line_at-line.result (rest t) _ j c.if-joined-ne0.false ∙ onward t),

@@ -1,5 +1,5 @@
 -- `member::factor` meets its contract: a code within its limits is a row of the table. Assumes nothing.
-use Rattle.std.proofs.Common.{◌≡◌, ◌≤◌, ap, true, arith}
+use Rattle.std.proofs.Common.{◌≡◌, ◌≤◌, ap, true}
 use Rattle.refusal.specs.Refusal.{number_of}
 use Rattle.refusal.specs.Said.{said_answer, gives}
 use Rattle.member.specs.Between.{between}

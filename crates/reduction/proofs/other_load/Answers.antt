@@ -10,25 +10,24 @@ use Rattle.reduction.specs.Reduced.{reduced_of}
 use Rattle.member.proofs.Tests.{passed, failed, limits}
 use Rattle.reduction.proofs.Shares.{other_within}
 use Rattle.reduction.proofs.Twentieths.{share_other}
-use borrow.Author.Rules.{rules}
 use Rattle.reduction.proofs.other_load.Goals as goal
 use Rattle.reduction.proofs.other_load.Goals.{Else-not-is_between, Else-not-is_between-2}
 
 -- the class and the load are within their limits, so the formula is not for the line
-class-known : (c : Else-not-is_between) → between 1 3 c.args.class ≡ true
-class-known c = passed c.is_between.ensures c.if-not-is_between.false
+class_known : (c : Else-not-is_between) → between 1 3 c.args.class ≡ true
+class_known c = passed c.is_between.ensures c.if-not-is_between.false
 
-load-known : (c : Else-not-is_between-2) → between 1 50000 c.args.load ≡ true
-load-known c = passed c.is_between-2.ensures c.if-not-is_between-2.false
+load_known : (c : Else-not-is_between-2) → between 1 50000 c.args.load ≡ true
+load_known c = passed c.is_between-2.ensures c.if-not-is_between-2.false
 
-not-formula : (c : Else-not-is_between-2) → let at = c.args in is_formula at.load at.class ≡ false
-not-formula c =
+not_formula : (c : Else-not-is_between-2) → let at = c.args in is_formula at.load at.class ≡ false
+not_formula c =
     go (is_formula c.args.load c.args.class) refl
   where
     go : (b : Bool) → is_formula c.args.load c.args.class ≡ b → b ≡ false
     go false e = refl
     go true e =
-        absurd (omega (arith, c.requires e, (limits 1 50000 c.args.load (load-known c)).0))
+        absurd (omega (arith, c.requires e, (limits 1 50000 c.args.load (load_known c)).0))
 
 pub returns-then-not-is_between : goal.returns-then-not-is_between
 unfolding said_answer number_of reduced_of
@@ -36,14 +35,14 @@ returns-then-not-is_between c = λ x. rw (failed c.is_between.ensures c.if-not-i
 
 pub returns-then-not-is_between-2 : goal.returns-then-not-is_between-2
 unfolding said_answer number_of reduced_of
-returns-then-not-is_between-2 c = λ x. rw (class-known (goal.at.returns-then-not-is_between-2 c).Else-not-is_between, failed c.is_between-2.ensures c.if-not-is_between-2.true)
+returns-then-not-is_between-2 c = λ x. rw (class_known (goal.at.returns-then-not-is_between-2 c).Else-not-is_between, failed c.is_between-2.ensures c.if-not-is_between-2.true)
 
 pub other_twentieths-requires : goal.other_twentieths-requires
-other_twentieths-requires c = class-known (goal.at.other_twentieths-requires c).Else-not-is_between
+other_twentieths-requires c = class_known (goal.at.other_twentieths-requires c).Else-not-is_between
 
 pub twentieths_of-requires : goal.twentieths_of-requires
 twentieths_of-requires c =
-    (rw c.other_twentieths.ensures (other_within c.args.class c.args.floors).1, (limits 1 50000 c.args.load (load-known (goal.at.twentieths_of-requires c).Else-not-is_between-2)).1)
+    (rw c.other_twentieths.ensures (other_within c.args.class c.args.floors).1, (limits 1 50000 c.args.load (load_known (goal.at.twentieths_of-requires c).Else-not-is_between-2)).1)
 
 pub returns : goal.returns
 unfolding said_answer reduced_of
@@ -51,4 +50,4 @@ returns c =
     let t = (goal.at.returns c).Else-not-is_between-2 in
     λ x.
     let at = c.args in
-    rw (class-known (goal.at.returns c).Else-not-is_between, load-known t, c.twentieths_of.ensures, c.other_twentieths.ensures, share_other at.load at.class at.floors x (not-formula t))
+    rw (class_known (goal.at.returns c).Else-not-is_between, load_known t, c.twentieths_of.ensures, c.other_twentieths.ensures, share_other at.load at.class at.floors x (not_formula t))

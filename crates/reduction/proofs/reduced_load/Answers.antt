@@ -13,7 +13,6 @@ use Rattle.reduction.specs.inner.ShareBounds.{Fit}
 use Rattle.member.proofs.Tests.{passed, failed, limits, in_limits}
 use Rattle.reduction.proofs.Fits.{formula_class, formula_load_lem, share_fits}
 use Rattle.reduction.proofs.Twentieths.{share_formula}
-use borrow.Author.Rules.{rules}
 use Rattle.reduction.proofs.reduced_load.Goals as goal
 use Rattle.reduction.proofs.reduced_load.Goals.{After-formula_share, Else-load-eq0}
 
@@ -21,22 +20,22 @@ use Rattle.reduction.proofs.reduced_load.Goals.{After-formula_share, Else-load-e
 formula : (c : Else-load-eq0) → let at = c.args in is_formula at.load at.class ≡ true
 formula c = passed c.is_formula.ensures c.if-not-is_formula.false
 
-class-known : (c : Else-load-eq0) → between 1 3 c.args.class ≡ true
-class-known c =
+class_known : (c : Else-load-eq0) → between 1 3 c.args.class ≡ true
+class_known c =
     let at = c.args in
     let one = formula_class at.load at.class (formula c) in
     in_limits 1 3 at.class (omega (arith, one)) (omega (arith, one))
 
-load-known : (c : Else-load-eq0) → between 1 50000 c.args.load ≡ true
-load-known c =
+load_known : (c : Else-load-eq0) → between 1 50000 c.args.load ≡ true
+load_known c =
     let at = c.args in
     let some : 1 ≤ at.load = omega (arith, c.if-load-eq0.false) in
     let most : at.load ≤ 50000 = omega (arith, formula_load_lem at.load at.class (formula c)) in
     in_limits 1 50000 at.load some most
 
 -- its share is the formula's, and fits
-share-known : (c : After-formula_share) → let at = c.args in c.formula_share.result ≡ share_of at.load at.class at.floors at.x
-share-known c =
+share_known : (c : After-formula_share) → let at = c.args in c.formula_share.result ≡ share_of at.load at.class at.floors at.x
+share_known c =
     let at = c.args in
     c.formula_share.ensures ∙ sym (share_formula at.load at.class at.floors at.x (formula c.before))
 
@@ -55,11 +54,11 @@ returns-then-load-eq0 c = c.other_load-then-load-eq0.ensures c.args.x
 pub rounded-requires : goal.rounded-requires
 rounded-requires c =
     let at = c.args in
-    let fits = share_fits at.load at.class at.floors at.x (limits 1 50000 at.load (load-known (goal.at.rounded-requires c).Else-load-eq0)).1 in
-    subst⁻¹ (λ (s : Share). Fit s at.load) (share-known (goal.at.rounded-requires c).After-formula_share) fits
+    let fits = share_fits at.load at.class at.floors at.x (limits 1 50000 at.load (load_known (goal.at.rounded-requires c).Else-load-eq0)).1 in
+    subst⁻¹ (λ (s : Share). Fit s at.load) (share_known (goal.at.rounded-requires c).After-formula_share) fits
 
 pub returns : goal.returns
 unfolding said_answer reduced_of
 returns c =
     let t = (goal.at.returns c).Else-load-eq0 in
-    rw (class-known t, load-known t, c.rounded.ensures, share-known (goal.at.returns c).After-formula_share)
+    rw (class_known t, load_known t, c.rounded.ensures, share_known (goal.at.returns c).After-formula_share)

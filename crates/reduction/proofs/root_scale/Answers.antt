@@ -5,7 +5,6 @@ use Rattle.reduction.specs.declared.share.Share.TheVariants.{Root}
 use Rattle.reduction.specs.Share.{formula_share}
 use Rattle.reduction.specs.Scale.{share_scale, scale_of}
 use Rattle.reduction.proofs.Fits.{formula_fits, fit_root}
-use borrow.Author.Rules.{rules}
 use Rattle.reduction.proofs.root_scale.Goals as goal
 use Rattle.reduction.proofs.root_scale.Goals.{In-Root}
 

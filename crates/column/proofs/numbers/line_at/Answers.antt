@@ -1,6 +1,5 @@
 -- `column::numbers::line_at` meets its contract. Assumes nothing.
 use Rattle.column.proofs.Entries.{entries_next}
-use borrow.Author.Rules.{rules}
 use Rattle.column.proofs.numbers.line_at.Goals as goal
 
 pub returns : goal.returns

@@ -3,7 +3,6 @@ use mathlib.Core.Path.{sym, ◌∙◌, ap}
 use native.Mathlib.Omega.{arith}
 use Rattle.column.specs.declared.Line.{Line}
 use Rattle.column.proofs.Lines.{last_none, last_some}
-use borrow.Author.Rules.{rules}
 use Rattle.column.proofs.places.last_floor_of.Goals as goal
 
 pub returns-then-count-eq0 : goal.returns-then-count-eq0

@@ -1,6 +1,6 @@
 -- `reduction::rounding::raised` meets its contract: what does not reach is below the reduced load, which is the measure.
 -- Assumes nothing.
-use Prim.Native.Nat.{◌-◌, ◌≤◌, ◌<◌}
+use Prim.Native.Nat.{◌<◌}
 use native.Mathlib.Omega.{arith}
 use Rattle.reduction.specs.declared.share.Share.TheVariants.{Root}
 use Rattle.reduction.specs.Reduced.{reduced}

@@ -1,11 +1,8 @@
 -- `reduction::rounding::raised` meets its contract: what does not reach is below the reduced load, which is the measure.
 -- Assumes nothing.
-use Prim.Native.Nat.{◌-◌, ◌≤◌, ◌<◌}
-use native.Mathlib.Omega.{arith}
+use Prim.Native.Nat.{◌-◌, ◌≤◌}
 use Rattle.reduction.specs.declared.share.Share.TheVariants.{Root}
 use Rattle.reduction.specs.Reduced.{reduced}
-use Rattle.member.proofs.Tests.{passed, failed}
-use Rattle.reduction.proofs.Fits.{fit_load, fit_above, fit_at_most, fit_whole}
 use Rattle.reduction.proofs.rounding.raised.Given as goal
 
 abbrev pub invariant-loop-x : goal.invariant-loop-x

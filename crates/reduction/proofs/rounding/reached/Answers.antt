@@ -7,7 +7,6 @@ use borrow.Author.Tests.{le-leb, lt-leb}
 use Rattle.reduction.specs.Least.{sq}
 use Rattle.reduction.specs.Reduced.{reaches}
 use Rattle.reduction.proofs.Fits.{fit_root}
-use borrow.Author.Rules.{rules}
 use Rattle.reduction.proofs.rounding.reached.Goals as goal
 use Rattle.reduction.proofs.rounding.reached.Goals.{Start}
 
@@ -18,8 +17,8 @@ bounds c = fit_root c.requires.0 refl
 abbrev gap : Start → ℕ
 gap c = 4 * c.args.r - c.args.load
 
-gap-square : (c : Start) → sq (gap c) ≤ 225000000
-gap-square c =
+gap_square : (c : Start) → sq (gap c) ≤ 225000000
+gap_square c =
     let w : gap c ≤ 15000 = omega (arith, bounds c) in
     mul-le-mul w w
 
@@ -45,13 +44,13 @@ pub overflow_mul-result-2 : goal.overflow_mul-result-2
 overflow_mul-result-2 c = omega (arith, bounds (goal.at.overflow_mul-result-2 c).Start)
 
 pub overflow_mul-result-3 : goal.overflow_mul-result-3
-overflow_mul-result-3 c = omega (arith, gap-square (goal.at.overflow_mul-result-3 c).Start)
+overflow_mul-result-3 c = omega (arith, gap_square (goal.at.overflow_mul-result-3 c).Start)
 
 pub overflow_mul-result-4 : goal.overflow_mul-result-4
 overflow_mul-result-4 c =
     let t = (goal.at.overflow_mul-result-4 c).Start in
     let x : 25 * c.args.x.0 ≤ 2320525 = omega (arith, bounds t) in
-    omega (arith, mul-le-mul x (gap-square t))
+    omega (arith, mul-le-mul x (gap_square t))
 
 pub returns : goal.returns
 unfolding reaches

@@ -2,7 +2,6 @@
 use mathlib.Core.Path.{refl}
 use native.Mathlib.Omega.{arith}
 use Rattle.reduction.proofs.Fits.{fit_root}
-use borrow.Author.Rules.{rules}
 use Rattle.reduction.proofs.rounding.root_rounded.Goals as goal
 
 pub near_scale-requires : goal.near_scale-requires

@@ -1,6 +1,5 @@
 -- `reduction::rounding::rounded` meets its contract. Assumes nothing.
 use Rattle.reduction.proofs.Fits.{fit_twentieths}
-use borrow.Author.Rules.{rules}
 use Rattle.reduction.proofs.rounding.rounded.Goals as goal
 
 pub twentieths_of-requires : goal.twentieths_of-requires
@@ -8,9 +7,3 @@ twentieths_of-requires c = fit_twentieths c.requires c.in-Twentieths.is
 
 pub root_rounded-requires : goal.root_rounded-requires
 root_rounded-requires c = rw c.in-Root.is at c.requires
-
-pub returns-in-Twentieths : goal.returns-in-Twentieths
-returns-in-Twentieths c = rw c.in-Twentieths.is c.twentieths_of.ensures
-
-pub returns-in-Root : goal.returns-in-Root
-returns-in-Root c = rw c.in-Root.is c.root_rounded.ensures

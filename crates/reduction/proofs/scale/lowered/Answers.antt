@@ -1,5 +1,5 @@
 -- `reduction::scale::lowered` meets its contract: r is never below the scale. Assumes nothing.
-use Prim.Native.Nat.{◌*◌, ◌≤◌, ◌<◌}
+use Prim.Native.Nat.{ℕ, ◌*◌, ◌≤◌, ◌<◌}
 use native.Mathlib.Nat.{mul-le-mul, lt_of_not-le}
 use native.Mathlib.Omega.{arith}
 use Rattle.reduction.specs.Least.{sq}
@@ -7,22 +7,22 @@ use Rattle.reduction.specs.Scale.{root_scale}
 use Rattle.reduction.proofs.Squares.{sq_le}
 use Rattle.reduction.proofs.Scales.{scale_fits, fits_scale}
 use Rattle.reduction.proofs.scale.lowered.Goals as goal
-use Rattle.reduction.proofs.scale.lowered.Goals.{After-struct_known-1, In-loop-r}
+use Rattle.reduction.proofs.scale.lowered.Goals.{In-loop-r}
 
 -- the scale is below a number whose square is above
 less : (c : In-loop-r) → root_scale c.args.x < c.loop-r.r
 less c = lt_of_not-le (λ h. omega (arith, scale_fits c.args.x h))
 
-square : (c : After-struct_known-1) → sq c.loop-r.r ≤ sq 1572863
-square c = sq_le {b = 1572863} (omega arith)
+square : (r : ℕ) → r ≤ 1572863 → sq r ≤ sq 1572863
+square r h = sq_le {b = 1572863} h
 
 pub overflow_mul-r : goal.overflow_mul-r
-overflow_mul-r c = omega (arith, square (goal.at.overflow_mul-r c).After-struct_known-1)
+overflow_mul-r c = omega (arith, square c.loop-r.r (omega arith))
 
 pub overflow_mul-x-in-loop-r : goal.overflow_mul-x-in-loop-r
 overflow_mul-x-in-loop-r c =
     let areas : 25 * c.args.x.0 ≤ 2320525 = omega arith in
-    omega (arith, mul-le-mul areas (square (goal.at.overflow_mul-x-in-loop-r c).After-struct_known-1))
+    omega (arith, mul-le-mul areas (square c.loop-r.r (omega arith)))
 
 pub overflow_sub-r : goal.overflow_sub-r
 overflow_sub-r c = omega (arith, less (goal.at.overflow_sub-r c).In-loop-r)

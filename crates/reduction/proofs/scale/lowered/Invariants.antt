@@ -1,11 +1,6 @@
 -- `reduction::scale::lowered` meets its contract: r is never below the scale. Assumes nothing.
-use Prim.Native.Nat.{◌*◌, ◌≤◌, ◌<◌}
-use native.Mathlib.Nat.{mul-le-mul, lt_of_not-le}
-use native.Mathlib.Omega.{arith}
-use Rattle.reduction.specs.Least.{sq}
+use Prim.Native.Nat.{◌≤◌}
 use Rattle.reduction.specs.Scale.{root_scale}
-use Rattle.reduction.proofs.Squares.{sq_le}
-use Rattle.reduction.proofs.Scales.{scale_fits, fits_scale}
 use Rattle.reduction.proofs.scale.lowered.Given as goal
 
 abbrev pub invariant-loop-r : goal.invariant-loop-r

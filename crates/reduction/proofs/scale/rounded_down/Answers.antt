@@ -1,7 +1,6 @@
 -- `reduction::scale::rounded_down` meets its contract. Assumes nothing.
 use native.Mathlib.Omega.{arith}
 use Rattle.reduction.proofs.Scales.{scale_most}
-use borrow.Author.Rules.{rules}
 use Rattle.reduction.proofs.scale.rounded_down.Goals as goal
 
 pub lowered-requires : goal.lowered-requires
