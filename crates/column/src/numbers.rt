@@ -6,6 +6,7 @@ use crate::Line;
 use member::TributaryArea;
 
 // The line that four numbers of a list make, from an index on.
+#[tactic(auto, using(crate::proofs::Entries::entries_next))]
 pub fn line_at(numbers: &[u64], at: usize) -> Line
     requires { at + 4 ≤ length numbers.now }
     ensures { entries_of (drop at numbers.now) ≡ result ∷ entries_of (drop (at + 4) numbers.now) }

@@ -18,6 +18,7 @@ pub fn number_of(line: Line) -> u64
 }
 
 // The floor of the last of so many lines; 0 where there is none.
+#[tactic(auto, using(crate::proofs::Lines::last_none, crate::proofs::Lines::last_some))]
 pub fn last_floor_of(held: &Places, count: u16) -> u64
     requires { Held held.now count }
     ensures { result ≡ last_floor (lines_before held.now count) }

@@ -70,6 +70,7 @@ fn influence_of(member: Member, area: TributaryArea) -> InfluenceArea
 }
 
 // The rate of so many twentieths.
+#[tactic(auto, unfolding(crate::specs::inner::Rates::twentieths_rate))]
 fn twentieths_rate(twentieths: u64) -> Rate
     requires { twentieths ≤ 20 }
     ensures { result ≡ twentieths_rate twentieths }
@@ -82,6 +83,7 @@ fn twentieths_rate(twentieths: u64) -> Rate
 }
 
 // The rate of the formula lines' share. The root is in doubt by one of its scale.
+#[tactic(auto, unfolding(crate::specs::inner::Rates::rate_of, crate::specs::inner::Rates::root_rate))]
 fn formula_rate(clamped: u64, floors: u64, x: InfluenceArea) -> Rate
     requires { clamped ≤ 20 }
     ensures { result ≡ rate_of clamped (scale_of floors x) }

@@ -11,6 +11,7 @@ use column::Places;
 use member::TributaryArea;
 
 // The area of a formula line, and 0 of any other.
+#[tactic(auto, unfolding(crate::specs::inner::Totals::formula_area))]
 fn formula_area(number: u64) -> TributaryArea
     requires { InLimits (unpacked number) }
     ensures { (result.0 ≡ formula_area (unpacked number)) × (result.0 ≤ 200000) }

@@ -18,7 +18,7 @@ use Rattle.column.specs.declared.Member.{Member}
 use Rattle.column.specs.declared.Column.{Column}
 use Rattle.figure.specs.declared.Working.{Working}
 use Rattle.figure.specs.Carried.{has_floor}
-use Rattle.column.specs.Accepted.{entry_number, accepted}
+use Rattle.column.specs.Accepted.{entry_number}
 use Rattle.column.specs.Column.{lines_of, column_of, opened_of, entered_of, after}
 use Rattle.column.specs.Pasted.{pasted_of}
 use Rattle.figure.specs.Asked.{working_of, asked_of, asked}

@@ -22,6 +22,7 @@ pub fn empty() -> Places
 }
 
 // Before the first line: the member that was opened, and that of code 0 where opening was refused.
+#[tactic(auto, unfolding(column::specs::Column::opened_outcome, column::specs::Column::column_of, crate::specs::inner::Entering::outcome_of))]
 pub fn begun(code: u64) -> Entered
     ensures { outcome_of result no_places ≡ opened_of (member_of code) }
 {
@@ -35,6 +36,7 @@ pub fn begun(code: u64) -> Entered
 }
 
 // One line more, after lines of which none is refused.
+#[tactic(auto, unfolding(column::specs::Column::joined_outcome, crate::specs::inner::Entering::outcome_of))]
 fn with_line(held: &mut Places, entered: Entered, line: Line) -> Entered
     requires { Reached (column_from entered.member entered.count held.old) }
     ensures { (outcome_of result held.new ≡ entered_of (column_from entered.member entered.count held.old) line) × Reached (column_from result.member result.count held.new) }

@@ -33,6 +33,7 @@ fn place_of(member: Member, count: u16) -> u64
 }
 
 // What asking gave, with the place 0 where it is refused.
+#[tactic(auto, unfolding(crate::specs::Listed::said_listed, crate::specs::Listed::at_place, figure::specs::Asked::said_working))]
 fn listed_of(asked: Asked) -> Listed
     ensures { said_listed result ≡ at_place 0 (said_working asked) }
 {
@@ -46,6 +47,7 @@ fn listed_of(asked: Asked) -> Listed
 }
 
 // After all lines: the first refusal, that of the floor, or what holds there.
+#[tactic(auto, unfolding(crate::specs::inner::Entering::answer_of, crate::specs::inner::Entering::outcome_of, crate::specs::Listed::said_listed))]
 fn answer_of(held: &Places, entered: Entered, floor: u64) -> Listed
     requires { Sits entered held.now }
     ensures { said_listed result ≡ answer_of (outcome_of entered held.now) floor }

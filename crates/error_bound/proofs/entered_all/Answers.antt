@@ -1,14 +1,14 @@
 -- `error_bound::entered_all` meets its contract: entering what is left gives what entering all from the start gives, and what
 -- is told of the refused ones goes on alike. Assumes nothing.
 use mathlib.Core.Path.{◌≡◌, refl, sym, ◌∙◌, ap}
-use Prim.Native.Nat.{◌+◌, ◌*◌, ◌-◌, ◌≤◌}
+use Prim.Native.Nat.{◌+◌, ◌-◌}
 use native.Mathlib.Omega.{arith}
-use lib.ListN.{length, drop}
+use lib.ListN.{drop}
 use mathlib.Core.List.{List}
 use Rattle.column.specs.declared.Line.{Line}
 use Rattle.column.specs.declared.Outcome.{Outcome}
 use Rattle.column.specs.declared.Column.{Column}
-use Rattle.column.specs.Column.{column_from, entered_of, after, Reached}
+use Rattle.column.specs.Column.{column_from, entered_of, after}
 use Rattle.column.specs.Pasted.{Pasting, pasted_of, pasted_outcome}
 use Rattle.column.specs.Line.{entries_of}
 use Rattle.column.proofs.Entries.{entry_at, entries_next, entries_one, entries_end}
@@ -16,7 +16,6 @@ use Rattle.column.proofs.Pasting.{pasted_one}
 use Rattle.error_bound.specs.declared.Refusals.{Refusals}
 use Rattle.error_bound.specs.inner.Counting.{numbers_on, noted_of, noted_all}
 use Rattle.error_bound.proofs.Counting.{noted_all_lem}
-use borrow.Author.Rules.{rules}
 use Rattle.error_bound.proofs.entered_all.Goals as goal
 use Rattle.error_bound.proofs.entered_all.Goals.{After-noted-refusals}
 

@@ -1,22 +1,11 @@
 -- `error_bound::entered_all` meets its contract: entering what is left gives what entering all from the start gives, and what
 -- is told of the refused ones goes on alike. Assumes nothing.
-use mathlib.Core.Path.{◌≡◌, refl, sym, ◌∙◌, ap}
+use mathlib.Core.Path.{◌≡◌}
 use Prim.Native.Nat.{◌+◌, ◌*◌, ◌-◌, ◌≤◌}
-use native.Mathlib.Omega.{arith}
 use lib.ListN.{length, drop}
-use mathlib.Core.List.{List}
-use Rattle.column.specs.declared.Line.{Line}
-use Rattle.column.specs.declared.Outcome.{Outcome}
-use Rattle.column.specs.declared.Column.{Column}
-use Rattle.column.specs.Column.{column_from, entered_of, after, Reached}
-use Rattle.column.specs.Pasted.{Pasting, pasted_of, pasted_outcome}
+use Rattle.column.specs.Column.{after, Reached}
 use Rattle.column.specs.Line.{entries_of}
-use Rattle.column.proofs.Entries.{entry_at, entries_next, entries_one, entries_end}
-use Rattle.column.proofs.Pasting.{pasted_one}
-use Rattle.error_bound.specs.declared.Refusals.{Refusals}
-use Rattle.error_bound.specs.inner.Counting.{numbers_on, noted_of, noted_all}
-use Rattle.error_bound.proofs.Counting.{noted_all_lem}
-use borrow.Author.Rules.{rules}
+use Rattle.error_bound.specs.inner.Counting.{numbers_on, noted_all}
 use Rattle.error_bound.proofs.entered_all.Given as goal
 
 abbrev pub invariant-loop-at : goal.invariant-loop-at

@@ -10,7 +10,6 @@ use Rattle.error_bound.specs.Entries.{refusals_of}
 use Rattle.error_bound.specs.inner.Counting.{numbers_on}
 use Rattle.error_bound.proofs.Counting.{refusals_opened, refusals_refused}
 use Rattle.error_bound.proofs.Claim.{asked_opened, asked_refused, claim_opened, claim_refused}
-use borrow.Author.Rules.{rules}
 use Rattle.error_bound.proofs.figure_after.Goals as goal
 
 pub returns-then-opened-ne0 : goal.returns-then-opened-ne0

@@ -1,7 +1,6 @@
 -- `error_bound::noted` meets its contract. Assumes nothing.
 use native.Mathlib.Omega.{arith}
 use Rattle.refusal.proofs.Said.{positive}
-use borrow.Author.Rules.{rules}
 use Rattle.error_bound.proofs.Counting.{noted_none, noted_first, noted_more}
 use Rattle.error_bound.proofs.noted.Goals as goal
 

@@ -1,8 +1,7 @@
 -- `records::figure_of` meets its contract: opening, entering in place and asking answer as the list does. Assumes nothing.
-use Rattle.std.proofs.Common.{◌≡◌, ◌∙◌, ap, sym, List, ℕ}
+use Rattle.std.proofs.Common.{◌∙◌, ap, List, ℕ}
 use Rattle.column.specs.declared.Outcome.{Outcome}
 use Rattle.column.specs.Column.{member_of}
-use Rattle.column.specs.inner.Sound.{no_places}
 use Rattle.records.specs.inner.Entering.{outcome_of, entered_all, answer_of}
 use Rattle.records.proofs.Answers.{promised}
 use Rattle.records.proofs.InPlace.{answer_listed, opens_sits}

@@ -22,7 +22,6 @@ use Rattle.figure.specs.inner.Rates.{shares_at, Shared, figure_by}
 use Rattle.figure.proofs.Carried.{area_total}
 use Rattle.figure.proofs.Order.{reached_ordered}
 use Rattle.figure.proofs.HeldLines.{held_before, order_before}
-use borrow.Author.Rules.{rules}
 use Rattle.figure.proofs.at_floor.asked_at.Goals as goal
 use Rattle.figure.proofs.at_floor.asked_at.Goals.{After-lines_at-end}
 
@@ -35,16 +34,16 @@ unfolding said_working number_of asked_of lines_of
 returns-then-end-eq0 c = rw (c.lines_at-end.ensures.has, c.if-end-eq0.true, c.number.ensures)
 
 -- the lines carried are those of a column's places
-places-known : (c : After-lines_at-end) → Held c.args.held.now c.lines_at-end.result
-places-known c = held_before (sound c.requires).held c.lines_at-end.result c.lines_at-end.ensures.few
+places_known : (c : After-lines_at-end) → Held c.args.held.now c.lines_at-end.result
+places_known c = held_before (sound c.requires).held c.lines_at-end.result c.lines_at-end.ensures.few
 
 pub floors_before-floors-requires : goal.floors_before-floors-requires
 unfolding lines_of
 floors_before-floors-requires c =
-    (places-known (goal.at.floors_before-floors-requires c).After-lines_at-end, order_before (sound c.requires).held (reached_ordered c.requires) c.lines_at-end.result c.lines_at-end.ensures.few, omega arith)
+    (places_known (goal.at.floors_before-floors-requires c).After-lines_at-end, order_before (sound c.requires).held (reached_ordered c.requires) c.lines_at-end.result c.lines_at-end.ensures.few, omega arith)
 
 pub area_between-area-requires : goal.area_between-area-requires
-area_between-area-requires c = (places-known (goal.at.area_between-area-requires c).After-lines_at-end, omega arith)
+area_between-area-requires c = (places_known (goal.at.area_between-area-requires c).After-lines_at-end, omega arith)
 
 pub shares_at-shares-requires : goal.shares_at-shares-requires
 shares_at-shares-requires c =
@@ -53,7 +52,7 @@ shares_at-shares-requires c =
 
 pub figure_between-figure-requires : goal.figure_between-figure-requires
 unfolding shares_at
-figure_between-figure-requires c = (places-known (goal.at.figure_between-figure-requires c).After-lines_at-end, omega arith, subst⁻¹ Shared c.shares_at-shares.ensures refl)
+figure_between-figure-requires c = (places_known (goal.at.figure_between-figure-requires c).After-lines_at-end, omega arith, subst⁻¹ Shared c.shares_at-shares.ensures refl)
 
 -- what was counted and summed of the lines carried is what asking gives
 summed : (m : Member) (ls front : List Line) (f : ℕ) (s : Shares) {n area figure : ℕ} → has_floor f ls ≡ true → carried f ls ≡ front

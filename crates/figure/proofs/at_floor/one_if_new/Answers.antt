@@ -1,7 +1,6 @@
 -- `figure::at_floor::one_if_new` meets its contract. Assumes nothing.
 use native.Mathlib.Omega.{arith}
 use borrow.Author.Tests.{eq-eqb, ne_eqb}
-use borrow.Author.Rules.{rules}
 use Rattle.figure.proofs.at_floor.one_if_new.Goals as goal
 
 pub returns-then-line_at : goal.returns-then-line_at

@@ -6,7 +6,6 @@ use Rattle.column.specs.declared.Line.{Line}
 use Rattle.figure.specs.inner.Totals.{SumOf}
 use Rattle.figure.proofs.HeldLines.{room, sum_join}
 use Rattle.figure.proofs.Shares.{figure_kept}
-use borrow.Author.Rules.{rules}
 use Rattle.figure.proofs.descent.figure_before.Goals as goal
 
 pub returns-then-before-here : goal.returns-then-before-here

@@ -1,12 +1,11 @@
 -- `figure::descent::floor_end` meets its contract: the lines from the first to before i have the floor. Assumes nothing.
 use mathlib.Core.Path.{sym, ◌∙◌, ap}
-use Prim.Native.Nat.{ℕ, ◌-◌, ◌≤◌}
+use Prim.Native.Nat.{ℕ}
 use native.Mathlib.Numerals.{add-one}
 use native.Mathlib.Omega.{arith}
-use Rattle.lists.specs.Lists.{All, none}
+use Rattle.lists.specs.Lists.{none}
 use Rattle.lists.proofs.Lists.{all_more}
 use Rattle.column.specs.declared.Line.{Line}
-use Rattle.column.specs.inner.Sound.{lines_between}
 use Rattle.column.proofs.Lines.{between_none, between_more}
 use Rattle.figure.specs.inner.Totals.{At}
 use Rattle.figure.proofs.HeldLines.{room}

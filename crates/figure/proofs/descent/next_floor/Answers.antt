@@ -7,7 +7,6 @@ use Rattle.figure.specs.inner.Rates.{shares_at}
 use Rattle.figure.proofs.HeldLines.{room, held_before, sum_join}
 use Rattle.figure.proofs.Shares.{shared_at}
 use Rattle.figure.proofs.Walk.{next_of}
-use borrow.Author.Rules.{rules}
 use Rattle.figure.proofs.descent.next_floor.Goals as goal
 
 pub area_between-requires : goal.area_between-requires

@@ -9,7 +9,6 @@ use Rattle.reduction.specs.Share.{clamped_of}
 use Rattle.reduction.specs.Scale.{scale_of}
 use Rattle.figure.specs.inner.Rates.{rate_of, shares_at, formula_load}
 use Rattle.figure.proofs.ByRate.{by, Sure, Small, formula_small, formula_by}
-use borrow.Author.Rules.{rules}
 use Rattle.figure.proofs.rates.formula_load.Goals as goal
 use Rattle.figure.proofs.rates.formula_load.Goals.{Start}
 
@@ -19,14 +18,14 @@ rate : (s : Start) → let n = s.args.shares.floors in
 unfolding shares_at
 rate s = ap (λ (t : Shares). t.formula) s.requires.2
 
-rate-small : (s : Start) → Small s.args.shares.formula
-rate-small s = subst⁻¹ Small (rate s) (formula_small s.args.shares.floors s.args.shares.influence)
+rate_small : (s : Start) → Small s.args.shares.formula
+rate_small s = subst⁻¹ Small (rate s) (formula_small s.args.shares.floors s.args.shares.influence)
 
 product : (s : Start) → s.args.load * s.args.shares.formula.times ≤ 5000 * 67108880
-product s = mul-le-mul s.requires.1 (rate-small s).times
+product s = mul-le-mul s.requires.1 (rate_small s).times
 
 doubts : (s : Start) → s.args.load * s.args.shares.formula.doubt ≤ 5000 * 32
-doubts s = mul-le-mul s.requires.1 (rate-small s).doubt
+doubts s = mul-le-mul s.requires.1 (rate_small s).doubt
 
 pub overflow_mul-low : goal.overflow_mul-low
 overflow_mul-low c = omega (arith, product (goal.at.overflow_mul-low c).Start)
@@ -34,7 +33,7 @@ overflow_mul-low c = omega (arith, product (goal.at.overflow_mul-low c).Start)
 pub overflow_add-low : goal.overflow_add-low
 overflow_add-low c =
     let t = (goal.at.overflow_add-low c).Start in
-    omega (arith, product t, (rate-small t).plus)
+    omega (arith, product t, (rate_small t).plus)
 
 pub overflow_mul-load : goal.overflow_mul-load
 overflow_mul-load c = omega (arith, doubts (goal.at.overflow_mul-load c).Start)
@@ -42,7 +41,7 @@ overflow_mul-load c = omega (arith, doubts (goal.at.overflow_mul-load c).Start)
 pub overflow_add-low-2 : goal.overflow_add-low-2
 overflow_add-low-2 c =
     let t = (goal.at.overflow_add-low-2 c).Start in
-    omega (arith, product t, (rate-small t).plus, doubts t)
+    omega (arith, product t, (rate_small t).plus, doubts t)
 
 pub returns : goal.returns
 returns c =

@@ -6,21 +6,20 @@ use native.Mathlib.Omega.{arith}
 use Rattle.member.specs.Member.{table_factor}
 use Rattle.member.proofs.Member.{factor_given, factor_not_refused}
 use Rattle.figure.specs.Carried.{influence_from}
-use borrow.Author.Rules.{rules}
 use Rattle.figure.proofs.rates.influence_of.Goals as goal
 use Rattle.figure.proofs.rates.influence_of.Goals.{In-Gives}
 
-is-factor : (c : In-Gives) → let k = c.in-Gives.factor in (k ≡ table_factor c.args.member.code) × (k ≤ 4)
-is-factor c =
+is_factor : (c : In-Gives) → let k = c.in-Gives.factor in (k ≡ table_factor c.args.member.code) × (k ≤ 4)
+is_factor c =
     factor_given c.args.member.code c.requires.0 c.factor-answer.ensures c.in-Gives.is
 
 pub overflow_mul-result : goal.overflow_mul-result
 overflow_mul-result c =
-    omega (arith, mul-le-mul (is-factor (goal.at.overflow_mul-result c).In-Gives).1 c.requires.1)
+    omega (arith, mul-le-mul (is_factor (goal.at.overflow_mul-result c).In-Gives).1 c.requires.1)
 
 pub returns-in-Gives : goal.returns-in-Gives
 unfolding influence_from
-returns-in-Gives c = rw (is-factor (goal.at.returns-in-Gives c).In-Gives).0
+returns-in-Gives c = rw (is_factor (goal.at.returns-in-Gives c).In-Gives).0
 
 pub returns-in-Refused : goal.returns-in-Refused
 returns-in-Refused c =

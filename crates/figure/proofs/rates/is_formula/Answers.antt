@@ -3,7 +3,6 @@ use mathlib.Core.Path.{◌∙◌, ap}
 use lib.Dec.{leb}
 use Prim.Native.Nat.{ℕ}
 use Rattle.figure.proofs.ByRate.{key_formula}
-use borrow.Author.Rules.{rules}
 use Rattle.figure.proofs.rates.is_formula.Goals as goal
 
 pub returns : goal.returns

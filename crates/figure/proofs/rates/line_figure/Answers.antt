@@ -11,7 +11,6 @@ use Rattle.column.specs.inner.Sound.{InLimits}
 use Rattle.figure.specs.Carried.{is_formula_line}
 use Rattle.figure.specs.inner.Rates.{figure_by}
 use Rattle.figure.proofs.ByRate.{twentieths_small, figure_formula, figure_other}
-use borrow.Author.Rules.{rules}
 use Rattle.figure.proofs.rates.line_figure.Goals as goal
 use Rattle.figure.proofs.rates.line_figure.Goals.{After-formula_load, After-line_of-line, After-other_times, Else-is_formula, Then-is_formula}
 

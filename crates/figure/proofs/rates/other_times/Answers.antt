@@ -5,7 +5,6 @@ use native.Mathlib.Omega.{arith}
 use Rattle.figure.specs.declared.rates.Shares.{Shares}
 use Rattle.figure.specs.inner.Rates.{twentieths_rate, shares_at}
 use Rattle.figure.proofs.ByRate.{key_other, key_assembly}
-use borrow.Author.Rules.{rules}
 use Rattle.figure.proofs.rates.other_times.Goals as goal
 
 pub returns-then-key_of-lt-ASSEMBLY_FIRST : goal.returns-then-key_of-lt-ASSEMBLY_FIRST

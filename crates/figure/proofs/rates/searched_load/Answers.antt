@@ -7,7 +7,6 @@ use native.Mathlib.Omega.{arith}
 use Rattle.reduction.specs.Reduced.{reduced_of}
 use Rattle.reduction.proofs.Reduced.{reduced_known}
 use Rattle.figure.specs.inner.Rates.{formula_load}
-use borrow.Author.Rules.{rules}
 use Rattle.figure.proofs.rates.searched_load.Goals as goal
 use Rattle.figure.proofs.rates.searched_load.Goals.{Start}
 

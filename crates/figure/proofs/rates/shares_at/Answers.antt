@@ -3,7 +3,6 @@ use native.Mathlib.Omega.{arith}
 use Rattle.reduction.proofs.Shares.{heavy_within}
 use Rattle.reduction.proofs.Twentieths.{clamped_most}
 use Rattle.figure.specs.inner.Rates.{twentieths_rate, shares_at}
-use borrow.Author.Rules.{rules}
 use Rattle.figure.proofs.rates.shares_at.Goals as goal
 
 pub formula_rate-formula-requires : goal.formula_rate-formula-requires

@@ -1,9 +1,6 @@
 -- `figure::sums::area_between` meets its contract: before index i the loop has summed the lines from the first to it. Assumes nothing.
-use mathlib.Core.Path.{◌≡◌}
 use Prim.Native.Nat.{◌-◌, ◌≤◌}
-use native.Mathlib.Omega.{arith}
 use Rattle.figure.specs.inner.Totals.{formula_area, SumOf}
-use Rattle.figure.proofs.HeldLines.{room, held_at, sum_none, sum_next}
 use Rattle.figure.proofs.sums.area_between.Given as goal
 
 abbrev pub invariant-loop-i : goal.invariant-loop-i

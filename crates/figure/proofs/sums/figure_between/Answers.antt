@@ -1,10 +1,7 @@
 -- `figure::sums::figure_between` meets its contract: before index i the loop has summed the lines from the first to it. Assumes nothing.
 use mathlib.Core.Path.{◌≡◌}
-use Prim.Native.Nat.{◌-◌, ◌≤◌}
 use native.Mathlib.Omega.{arith}
-use Rattle.figure.specs.inner.Totals.{SumOf}
 use Rattle.figure.proofs.HeldLines.{room, held_at, sum_none, sum_next}
-use Rattle.figure.specs.inner.Rates.{figure_by}
 use Rattle.figure.proofs.sums.figure_between.Goals as goal
 
 pub loop-i-init : goal.loop-i-init

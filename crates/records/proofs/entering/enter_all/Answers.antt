@@ -1,5 +1,5 @@
 -- `records::entering::enter_all` meets its contract: each line is entered while nothing is refused. Assumes nothing.
-use Rattle.std.proofs.Common.{arith, ◌≡◌, cond, eqb, ℕ, ◌+◌, ◌<◌, ◌≤◌, Bool, length, drop, get_or, sym, ◌∙◌, ap, List, [], ◌∷◌, ◌⊎◌, inl, inr, add-one, drop-cons, refl}
+use Rattle.std.proofs.Common.{arith, ◌≡◌, cond, eqb, ℕ, ◌+◌, ◌<◌, ◌≤◌, Bool, length, drop, get_or, sym, ◌∙◌, ap, List, [], ◌∷◌, ◌⊎◌, inl, inr, add-one, drop-cons}
 use Rattle.std.proofs.lemmas.List.{drop_all}
 use Rattle.refusal.proofs.Said.{by_number, not_zero}
 use Rattle.column.specs.declared.Line.{Line}
