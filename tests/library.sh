@@ -13,7 +13,7 @@ make_library() {
 build_library() {
     local made=$library/libexports.a
     if [ -n "${BUNGERO_LIB:-}" ]; then return; fi
-    if [ -e "$made" ] && [ -z "$(find crates crates.txt -name out -prune -o -newer "$made" -type f -print -quit)" ]; then return; fi
+    if [ -e "$made" ] && [ -z "$(find crates crates.txt -name out -prune -o -newer "$made" -print -quit)" ]; then return; fi
     make_library
 }
 

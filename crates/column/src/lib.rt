@@ -201,7 +201,8 @@ pub fn paste_in(held: &mut Places, member: Member, count: u16, lines: &[u64]) ->
     while 4 <= lines.len() - at {
         let line = numbers::line_at(lines, at);
         let joined = enter_below(held, member, filled, last, line);
-        if joined.number != 0 {
+        let is_refused = joined.number != 0;
+        if is_refused {
             return Pasted {
                 number: joined.number,
                 kept: joined.count - count,

@@ -64,8 +64,8 @@ fn wide(factor: i8) -> i64
 
 // The sum of a row: from the last effect to the first, as the definition adds.
 fn sum_of(factors: [i8; 7], newtons: [i64; 7]) -> i64
-    requires seven { Seven 16 factors }
-    requires seven_2 { Seven limit newtons }
+    requires seven_factors { Seven 16 factors }
+    requires seven_newtons { Seven limit newtons }
     ensures { result ≡ sum_of factors newtons }
 {
     let mut sum = 0i64;

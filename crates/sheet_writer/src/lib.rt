@@ -108,7 +108,8 @@ fn fits(held: &Places, member: Member, count: u16, newtons: Newtons, room: usize
     requires { Keeps (sheet_from (column_from member count held.now) newtons) }
     ensures { result ≡ leb (length (written (sheet_from (column_from member count held.now) newtons))) room }
 {
-    if room >= ROOM {
+    let suffices = room >= ROOM;
+    if suffices {
         return true;
     }
     lengths::sheet_length(held, member, count, newtons) <= room

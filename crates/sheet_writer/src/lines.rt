@@ -45,7 +45,7 @@ fn put_lines(to: &mut [u8], at: usize, held: &Places, count: usize) -> usize
 }
 
 // Puts an effect behind its key, and ends the line. Compiled into its callers, where the keys are known, so that the
-// library calls memcpy alone.
+// library copies by memcpy alone.
 #[inline(always)]
 fn put_effect(to: &mut [u8], at: usize, key: &[u8], newtons: i64) -> usize
     ensures { out to.new result ≡ puts to.old at (effect_parts key.now newtons) }

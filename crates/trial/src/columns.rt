@@ -1,12 +1,11 @@
 // Answers questions about one column at a time, and keeps the numbers entered since it was opened.
-ghost use Rattle.std.specs.Prelude.{◌≤◌, IfOk};
+ghost use Rattle.std.specs.Prelude.{◌≤◌};
 ghost use Rattle.column.specs.Column.{Reached};
 
 use crate::print;
 use column::{Column, Line};
 use error_bound::AfterList;
 use member::TributaryArea;
-use std::io;
 
 // Room for the numbers of 300 entries.
 const ROOM: usize = 1200;
@@ -34,31 +33,24 @@ pub fn state_of(column: Column, code: u64) -> State
 }
 
 // Opens a member; a refused one leaves the column.
-pub fn open(rt: &impl Print, state: State, code: u64) -> io::Result<State>
+pub fn open(rt: &impl Print, state: State, code: u64) -> State
     requires { Reached state.column }
-    ensures { IfOk result (λ s. Reached s.column) }
+    ensures { Reached result.column }
 {
     let opened = column::open(code);
-    print::print_number(rt, opened.number)?;
+    print::print_number(rt, opened.number);
     if opened.number != 0 {
         let kept = state.column;
-        return Ok(state_of(kept, code));
+        return state_of(kept, code);
     }
     let next = opened.column;
-    Ok(state_of(next, code))
+    state_of(next, code)
 }
 
 // Enters a line, and keeps its numbers, accepted or not.
-pub fn enter(
-    rt: &impl Print,
-    state: State,
-    floor: u64,
-    class: u64,
-    load: u64,
-    area: u64,
-) -> io::Result<State>
+pub fn enter(rt: &impl Print, state: State, floor: u64, class: u64, load: u64, area: u64) -> State
     requires { Reached state.column }
-    ensures { IfOk result (λ s. Reached s.column) }
+    ensures { Reached result.column }
 {
     let line = Line {
         floor: floor,
@@ -67,7 +59,7 @@ pub fn enter(
         area: TributaryArea(area),
     };
     let entered = column::enter(state.column, line);
-    print::print_number(rt, entered.number)?;
+    print::print_number(rt, entered.number);
     let mut next = state;
     let column = entered.column;
     next.column = column;
@@ -79,14 +71,14 @@ pub fn enter(
         next.numbers[at + 3] = area;
         next.count = at + 4;
     }
-    Ok(next)
+    next
 }
 
 // Asks the column at a floor.
-pub fn ask(rt: &impl Print, state: State, floor: u64) -> io::Result<()>
+pub fn ask(rt: &impl Print, state: State, floor: u64)
     requires { Reached state.column }
 {
-    print::print_asked(rt, figure::ask(state.column, floor))
+    print::print_asked(rt, figure::ask(state.column, floor));
 }
 
 // How many of the numbers are left where the last few are left off.
@@ -111,8 +103,8 @@ fn asked_after(code: u64, numbers: [u64; ROOM], end: usize, floor: u64) -> After
 
 // Asks at a floor after the whole list of numbers, of which the last few are left off; tells too which entries
 // were refused.
-pub fn list(rt: &impl Print, state: State, floor: u64, off: u64) -> io::Result<()> {
+pub fn list(rt: &impl Print, state: State, floor: u64, off: u64) {
     let numbers = state.numbers;
     let end = left(state.count, off);
-    print::print_after(rt, asked_after(state.code, numbers, end, floor))
+    print::print_after(rt, asked_after(state.code, numbers, end, floor));
 }

@@ -68,13 +68,13 @@ stays c h =
     ap (λ (o : Outcome). o.column.count) j ∙ ap (λ (d : Column). d.count) (entered_stays _ _ (subst (λ (o : Outcome). 1 ≤ o.number) j h))
 
 pub overflow_sub-result : goal.overflow_sub-result
-overflow_sub-result c = omega (arith, stays (goal.at.overflow_sub-result c).After-enter_below-joined (positive c.if-joined-ne0.true))
+overflow_sub-result c = omega (arith, stays (goal.at.overflow_sub-result c).After-enter_below-joined (positive c.if-is_refused.true))
 
-pub returns-then-joined-ne0 : goal.returns-then-joined-ne0
+pub returns-then-is_refused : goal.returns-then-is_refused
 unfolding joined_outcome pasted_outcome
-returns-then-joined-ne0 c =
-    let t = (goal.at.returns-then-joined-ne0 c).After-enter_below-joined in
-    let some = positive c.if-joined-ne0.true in
+returns-then-is_refused c =
+    let t = (goal.at.returns-then-is_refused c).After-enter_below-joined in
+    let some = positive c.if-is_refused.true in
     let then = column_from (lent t).member c.enter_below-joined.result.count c.enter_below-joined.new.held in record {
       held_after = ap (λ (n : ℕ). record { number = c.enter_below-joined.result.number; kept = n - (lent t).count; column = then }) (stays t some)
           ∙ (pasted_end _ _ _ _ _ c.enter_below-joined.ensures.held_after some ∙ onward t);
@@ -87,7 +87,7 @@ loop-at-preserved c =
     let t = (goal.at.loop-at-preserved c).After-enter_below-joined in
     let then = column_from (lent t).member c.enter_below-joined.result.count c.enter_below-joined.new.held in
     let j = c.enter_below-joined.ensures.held_after in
-    let zero = sym (ap (λ (o : Outcome). o.number) j) ∙ c.if-joined-ne0.false in
+    let zero = sym (ap (λ (o : Outcome). o.number) j) ∙ c.if-is_refused.false in
     let one : then.count ≡ (before t).count + 1 = ap (λ (o : Outcome). o.column.count) j ∙ entered_count _ c.loop-at.invariant.2 zero in
     let more : then.count - (lent t).count ≡ kept t + 1 = omega (arith, one) in (
       omega arith,
@@ -95,7 +95,7 @@ loop-at-preserved c =
       c.enter_below-joined.ensures.reached_after,
       sym (ap (λ (o : Outcome). last_floor (lines_of o.column)) j ∙ entered_last _ _ zero),
       ap (λ (k : ℕ). pasted_from k then (rest t)) more
-          ∙ (pasted_next (kept t) (before t) c.line_at-line.result (rest t) _ j c.if-joined-ne0.false ∙ onward t),
+          ∙ (pasted_next (kept t) (before t) c.line_at-line.result (rest t) _ j c.if-is_refused.false ∙ onward t),
     )
 
 pub returns : goal.returns

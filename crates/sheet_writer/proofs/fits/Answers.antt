@@ -18,9 +18,9 @@ use Rattle.sheet_writer.proofs.fits.Goals.{Start}
 abbrev sheet : Start → Sheet
 sheet s = sheet_from (column_from s.args.member s.args.count s.args.held.now) s.args.newtons
 
-pub returns-then-room-ge-ROOM : goal.returns-then-room-ge-ROOM
-returns-then-room-ge-ROOM c =
-    let t = (goal.at.returns-then-room-ge-ROOM c).Start in
+pub returns-then-suffices : goal.returns-then-suffices
+returns-then-suffices c =
+    let t = (goal.at.returns-then-suffices c).Start in
     sym (le-leb (length (written (sheet t))) c.args.room (omega (arith, written_most (sheet t) c.requires)))
 
 pub sheet_length-requires : goal.sheet_length-requires

@@ -18,8 +18,8 @@ row_is c = ap (λ (t : List (List ℤ)). get_or t c.args.i []) c.requires.table_
 
 pub sum_of-requires : goal.sum_of-requires
 sum_of-requires c = record {
-  seven = subst (Seven 16) (sym (row_is (goal.at.sum_of-requires c).Start)) (row_fits c.args.i c.requires.i_bound);
-  seven_2 = c.requires.seven;
+  seven_factors = subst (Seven 16) (sym (row_is (goal.at.sum_of-requires c).Start)) (row_fits c.args.i c.requires.i_bound);
+  seven_newtons = c.requires.seven;
 }
 
 pub returns : goal.returns

@@ -14,7 +14,7 @@ use Rattle.combination.proofs.search.sum_of.Goals as goal
 use Rattle.combination.proofs.search.sum_of.Goals.{After-wide}
 
 pub loop-j-init : goal.loop-j-init
-loop-j-init c = (omega arith, sym (sum_end c.args.factors c.args.newtons c.requires.seven.count))
+loop-j-init c = (omega arith, sym (sum_end c.args.factors c.args.newtons c.requires.seven_factors.count))
 
 -- a turn of the loop: j is the index, f its factor, x its effect
 module _ (c : After-wide) where
@@ -32,15 +32,15 @@ module _ (c : After-wide) where
 
   f-kept : to_z w64 (of_z w64 c.wide.result) ≡ f
   f-kept =
-      let each = c.requires.seven.each j in
+      let each = c.requires.seven_factors.each j in
       let is : c.wide.result ≡ f = c.wide.ensures ∙ factor_kept each in
       ap (λ (z : ℤ). to_z w64 (of_z w64 z)) is ∙ kept each (lit< tt)
 
   x-kept : to_z w64 (of_z w64 x) ≡ x
-  x-kept = kept (c.requires.seven_2.each j) (lit< tt)
+  x-kept = kept (c.requires.seven_newtons.each j) (lit< tt)
 
   product : nat_abs (f *ℤ x) ≤ most_product
-  product = size_product f x (c.requires.seven.each j) (c.requires.seven_2.each j)
+  product = size_product f x (c.requires.seven_factors.each j) (c.requires.seven_newtons.each j)
 
   product-kept : to_z w64 (of_z w64 (f *ℤ x)) ≡ f *ℤ x
   product-kept = kept product (lit< tt)
@@ -50,10 +50,10 @@ module _ (c : After-wide) where
       let loop = c.loop-j in
       let k : loop.j ≡ suc j = omega arith in
       ap (λ (z : ℤ). f *ℤ x +ℤ z) (loop.invariant.1 ∙ ap (λ (i : ℕ). sum_of (drop i c.args.factors) (drop i c.args.newtons)) k)
-      ∙ sym (sum_from j c.args.factors c.args.newtons (omega (arith, c.requires.seven.count)) (omega (arith, c.requires.seven_2.count)))
+      ∙ sym (sum_from j c.args.factors c.args.newtons (omega (arith, c.requires.seven_factors.count)) (omega (arith, c.requires.seven_newtons.count)))
 
   size : nat_abs (f *ℤ x +ℤ before) ≤ most_sum
-  size = subst (λ (z : ℤ). nat_abs z ≤ most_sum) (sym sum_is) (sum_small c.args.factors c.args.newtons c.requires.seven c.requires.seven_2 j)
+  size = subst (λ (z : ℤ). nat_abs z ≤ most_sum) (sym sum_is) (sum_small c.args.factors c.args.newtons c.requires.seven_factors c.requires.seven_newtons j)
 
   sum_kept : to_z w64 (of_z w64 (f *ℤ x +ℤ before)) ≡ f *ℤ x +ℤ before
   sum_kept = kept size (lit< tt)
