@@ -1,8 +1,10 @@
 -- What an answer says in paper 01's terms: the value it gives, or the number of a refusal and what comes back with it.
 -- Assumes nothing.
-use Rattle.std.specs.Prelude.{ℕ}
+use Rattle.std.specs.Prelude.{ℕ, Result, Ok, Err}
+use Rattle.refusal.specs.declared.Refusal.{Refusal}
+use Rattle.refusal.specs.declared.Refused.{Refused}
 use Rattle.refusal.specs.declared.Answer.{Answer}
-use Rattle.refusal.specs.declared.Answer.TheVariants.{Gives, Refused}
+use Rattle.refusal.specs.declared.Answer.TheVariants as A
 use Rattle.refusal.specs.Refusal.{number_of}
 
 -- 01, Numbers by the place of checking: what is given, or the number of the first condition that holds, with what comes back,
@@ -21,5 +23,15 @@ nothing = tt
 
 -- 01, Where each language form belongs: the number and the value of each case of an answer
 unfoldable pub said_answer : Answer → Said ℕ
-said_answer (Gives n) = gives n
-said_answer (Refused r) = refused (number_of r) nothing
+said_answer (A.Gives n) = gives n
+said_answer (A.Refused r) = refused (number_of r) nothing
+
+-- 01, Where each language form belongs: the number and the value of each case of an answer
+unfoldable pub said : {A : Type 0} → Result A Refusal → Said A
+said (Ok a) = gives a
+said (Err r) = refused (number_of r) nothing
+
+-- 01, Where each language form belongs: the same of an answer with which something comes back
+unfoldable pub told : {A B : Type 0} → Result A (Refused B) → Told B A
+told (Ok a) = gives a
+told (Err r) = refused (number_of r.refusal) r.back

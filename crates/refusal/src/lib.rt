@@ -4,33 +4,49 @@
 ghost use Rattle.std.specs.Prelude.{◌≡◌};
 ghost use Rattle.refusal.specs.Refusal.{number_of};
 
-// Why a call was not carried out (01, Numbers by the place of checking; from 12 on 02).
-#[derive(Clone, Copy)]
+// Why a call was not carried out, with the paper's number (01, Numbers by the place of checking; from 12 on 02).
+#[derive(Clone, Copy, PartialEq, Eq)]
 pub enum Refusal {
     // A member's code is not 1 to 12.
-    UnknownCode,
+    UnknownCode = 1,
     // 256 lines are held already.
-    TooManyLines,
+    TooManyLines = 2,
     // A floor is not in the range from the last accepted line's, at least 1, to 64.
-    FloorOutOfRange,
+    FloorOutOfRange = 3,
     // A class is not 1 to 3.
-    UnknownClass,
+    UnknownClass = 4,
     // A load is not 1 to 50,000 N/m².
-    LoadOutOfRange,
+    LoadOutOfRange = 5,
     // A tributary area is not 1 to 200,000 dm².
-    AreaOutOfRange,
+    AreaOutOfRange = 6,
     // No accepted line has the floor asked for.
-    NoLineAtFloor,
+    NoLineAtFloor = 7,
     // An effect is not a whole number.
-    EffectNotWhole,
+    EffectNotWhole = 8,
     // An effect is beyond ±1,000,000,000,000.
-    EffectOutOfRange,
+    EffectOutOfRange = 9,
     // A sheet's line has not the form, is missing, or is left over.
-    SheetMalformed,
+    SheetMalformed = 10,
     // A sheet is longer than 32,768 bytes.
-    SheetTooLong,
+    SheetTooLong = 11,
     // A buffer is shorter than the text that is to be written to it.
-    BufferTooShort,
+    BufferTooShort = 12,
+}
+
+impl Refusal {
+    // The paper's number of a refusal.
+    pub fn number(self) -> u64
+        ensures { result ≡ number_of self }
+    {
+        self as u64
+    }
+}
+
+// A refusal, and what comes back with it.
+#[derive(Clone, Copy)]
+pub struct Refused<B> {
+    pub refusal: Refusal,
+    pub back: B,
 }
 
 // A whole number, or why there is none.
@@ -41,22 +57,8 @@ pub enum Answer {
 }
 
 // The paper's number of a refusal.
-#[tactic(auto, unfolding(crate::specs::Refusal::number_of))]
 pub fn number(refusal: Refusal) -> u64
     ensures { result ≡ number_of refusal }
 {
-    match refusal {
-        Refusal::UnknownCode => 1,
-        Refusal::TooManyLines => 2,
-        Refusal::FloorOutOfRange => 3,
-        Refusal::UnknownClass => 4,
-        Refusal::LoadOutOfRange => 5,
-        Refusal::AreaOutOfRange => 6,
-        Refusal::NoLineAtFloor => 7,
-        Refusal::EffectNotWhole => 8,
-        Refusal::EffectOutOfRange => 9,
-        Refusal::SheetMalformed => 10,
-        Refusal::SheetTooLong => 11,
-        Refusal::BufferTooShort => 12,
-    }
+    refusal.number()
 }
