@@ -4,6 +4,7 @@ pub mod Lines
 pub mod Columns
 pub mod Reach
 pub mod InTurn
+pub mod Seen
 pub mod Entries
 pub mod Entering
 pub mod EntryNumbers

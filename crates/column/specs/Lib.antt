@@ -2,6 +2,8 @@
 pub mod Line
 pub mod Accepted
 pub mod Column
+pub mod Lent
+pub mod Seen
 pub mod Pasted
 pub mod theorems
 pub mod tables

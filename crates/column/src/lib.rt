@@ -7,10 +7,12 @@ ghost use Rattle.column.specs.Accepted.{last_floor};
 ghost use Rattle.column.specs.Column.{lines_of, column_from, member_of, opened_outcome, opened_of, entered_of, Reached, joined_outcome};
 ghost use Rattle.column.specs.Pasted.{pasted_of, pasted_outcome};
 
+pub use lent::ColumnRef;
 use member::{TributaryArea, limits};
 use refusal::Refusal;
 
 mod conditions;
+mod lent;
 mod numbers;
 mod places;
 
