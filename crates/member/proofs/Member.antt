@@ -12,7 +12,7 @@ use Rattle.refusal.specs.declared.Refusal.{Refusal}
 use Rattle.refusal.specs.declared.Answer.{Answer}
 use Rattle.refusal.specs.declared.Answer.TheVariants.{Gives, Refused}
 use Rattle.refusal.specs.Said.{said_answer, gives}
-use Rattle.refusal.proofs.Said.{gives_it, gives_not_refused}
+use Rattle.refusal.proofs.Said.{answer_gives_it, answer_gives_not_refused}
 use Rattle.member.specs.Between.{between}
 use Rattle.member.specs.Member.{table4_2, table_factor, factor_of}
 
@@ -47,8 +47,8 @@ factor_row (suc n) h = ap (λ (k : ℕ). get_or table4_2 k 0) (omega arith)
 module _ (code : ℕ) (ok : between 1 12 code ≡ true) {a : Answer} (asked : said_answer a ≡ factor_of code) where
   pub factor_given : {k : ℕ} → a ≡ Gives k → (k ≡ table_factor code) × (k ≤ 4)
   factor_given e =
-      let is = gives_it e (asked ∙ factor_known code ok) in
+      let is = answer_gives_it e (asked ∙ factor_known code ok) in
       (is, rw is (factor_most code))
 
   pub factor_not_refused : {q : Refusal} → a ≡ Refused q → ⊥
-  factor_not_refused e = gives_not_refused e (asked ∙ factor_known code ok)
+  factor_not_refused e = answer_gives_not_refused e (asked ∙ factor_known code ok)

@@ -1,5 +1,6 @@
 -- What an answer says leaves one answer: each refusal has its own number.
 -- Assumes nothing.
+use Rattle.std.specs.Prelude.{Result, Ok, Err}
 use mathlib.Core.Path.{◌≡◌, refl, sym, ◌∙◌, ap}
 use mathlib.Core.Bool.{false}
 use mathlib.Core.List.{List, [], ◌∷◌}
@@ -11,10 +12,11 @@ use borrow.Author.Tests.{ne_eqb}
 use Rattle.refusal.specs.declared.Refusal.{Refusal}
 use Rattle.refusal.specs.declared.Refusal.TheVariants.{UnknownCode, TooManyLines, FloorOutOfRange, UnknownClass, LoadOutOfRange, AreaOutOfRange}
 use Rattle.refusal.specs.declared.Refusal.TheVariants.{NoLineAtFloor, EffectNotWhole, EffectOutOfRange, SheetMalformed, SheetTooLong, BufferTooShort}
-use Rattle.refusal.specs.declared.Answer.{Answer}
-use Rattle.refusal.specs.declared.Answer.TheVariants.{Gives, Refused}
+use Rattle.refusal.specs.declared.Refused.{Refused}
 use Rattle.refusal.specs.Refusal.{number_of}
-use Rattle.refusal.specs.Said.{Said, gives, refused, said_answer, nothing}
+use Rattle.refusal.specs.declared.Answer.{Answer}
+use Rattle.refusal.specs.declared.Answer.TheVariants as A
+use Rattle.refusal.specs.Said.{gives, refused, said, told, said_answer, nothing}
 
 refusals : List Refusal
 refusals =
@@ -32,13 +34,9 @@ refusals =
     ∷ BufferTooShort
     ∷ []
 
--- the refusal of a number, and the answer of what is said
+-- the refusal of a number
 refusal_of : ℕ → Refusal
 refusal_of n = get_or refusals (n - 1) UnknownCode
-
-answer_of : Said ℕ → Answer
-answer_of (gives n) = Gives n
-answer_of (refused n _) = Refused (refusal_of n)
 
 of_number : (r : Refusal) → refusal_of (number_of r) ≡ r
 unfolding refusal_of refusals number_of
@@ -55,18 +53,32 @@ of_number SheetMalformed = refl
 of_number SheetTooLong = refl
 of_number BufferTooShort = refl
 
-of_said : (a : Answer) → answer_of (said_answer a) ≡ a
-unfolding answer_of said_answer
-of_said (Gives n) = refl
-of_said (Refused r) = ap Refused (of_number r)
-
 -- two refusals with one number are one refusal
 pub number_injective : (q r : Refusal) → number_of q ≡ number_of r → q ≡ r
 number_injective q r e = sym (of_number q) ∙ (ap refusal_of e ∙ of_number r)
 
 -- two answers that say the same are one answer
-pub said_injective : (a b : Answer) → said_answer a ≡ said_answer b → a ≡ b
-said_injective a b e = sym (of_said a) ∙ (ap answer_of e ∙ of_said b)
+pub said_injective : {A : Type 0} (a b : Result A Refusal) → said a ≡ said b → a ≡ b
+unfolding said
+said_injective (Ok x) (Ok y) e = cc
+said_injective (Err q) (Err r) e = let same : number_of q ≡ number_of r = cc in ap Err (number_injective q r same)
+said_injective (Ok x) (Err r) e = cc
+said_injective (Err q) (Ok y) e = cc
+
+abbrev with_back : {B : Type 0} → Refusal → B → Refused B
+with_back r b = record { refusal = r; back = b }
+
+pub told_injective : {A B : Type 0} (a b : Result A (Refused B)) → told a ≡ told b → a ≡ b
+unfolding told
+told_injective (Ok x) (Ok y) e = cc
+told_injective (Err q) (Err r) e =
+    let same : number_of q.refusal ≡ number_of r.refusal = cc in
+    let one : q.refusal ≡ r.refusal = number_injective q.refusal r.refusal same in
+    let back : q.back ≡ r.back = cc in
+    let whole : with_back q.refusal q.back ≡ with_back r.refusal r.back = cc in
+    ap Err whole
+told_injective (Ok x) (Err r) e = cc
+told_injective (Err q) (Ok y) e = cc
 
 -- no refusal has the number 0
 pub number_positive : (r : Refusal) → 1 ≤ number_of r
@@ -95,16 +107,53 @@ positive {n} h = by_number n (λ e. absurd (h e)) (λ k. k)
 pub not_zero : {n : ℕ} → 1 ≤ n → eqb n 0 ≡ false
 not_zero {n} h = ne_eqb n 0 (λ q. omega arith)
 
--- an answer that says what it gives, gives that number and is no refusal
-pub gives_it : {a : Answer} {n k : ℕ} → a ≡ Gives n → said_answer a ≡ gives k → n ≡ k
+-- an answer that says what it gives, gives that value and is no refusal
+pub gives_it : {A : Type 0} {a : Result A Refusal} {x y : A} → a ≡ Ok x → said a ≡ gives y → x ≡ y
+unfolding said
+gives_it {A} {a} {x} {y} p q =
+    let e : said (Ok x) ≡ gives y = rw p at q in
+    cc
+
+pub gives_not_refused : {A : Type 0} {a : Result A Refusal} {r : Refusal} {y : A} → a ≡ Err r → said a ≡ gives y → ⊥
+unfolding said
+gives_not_refused {A} {a} {r} {y} p q =
+    let e : said {A = A} (Err r) ≡ gives y = rw p at q in
+    cc
+
+-- so it is no refusal, and gives that value
+pub is_given : {A : Type 0} (a : Result A Refusal) {y : A} → said a ≡ gives y → a ≡ Ok y
+unfolding said
+is_given (Ok x) {y} q = cc
+is_given (Err r) {y} q = cc
+
+-- the same where something comes back
+pub told_gives_it : {A B : Type 0} {a : Result A (Refused B)} {x y : A} → a ≡ Ok x → told a ≡ gives y → x ≡ y
+unfolding told
+told_gives_it {A} {B} {a} {x} {y} p q =
+    let e : told {A = A} {B = B} (Ok x) ≡ gives y = rw p at q in
+    cc
+
+pub told_gives_not_refused : {A B : Type 0} {a : Result A (Refused B)} {r : Refused B} {y : A} → a ≡ Err r → told a ≡ gives y → ⊥
+unfolding told
+told_gives_not_refused {A} {B} {a} {r} {y} p q =
+    let e : told {A = A} (Err r) ≡ gives y = rw p at q in
+    cc
+
+pub told_is_given : {A B : Type 0} (a : Result A (Refused B)) {y : A} → told a ≡ gives y → a ≡ Ok y
+unfolding told
+told_is_given (Ok x) {y} q = cc
+told_is_given (Err r) {y} q = cc
+
+-- the same of `Answer`, until nothing uses it
+pub answer_gives_it : {a : Answer} {n k : ℕ} → a ≡ A.Gives n → said_answer a ≡ gives k → n ≡ k
 unfolding said_answer
-gives_it {a} {n} {k} p q =
+answer_gives_it {a} {n} {k} p q =
     let e : gives n ≡ gives k = ap said_answer (sym p) ∙ q in
     cc
 
-pub gives_not_refused : {a : Answer} {r : Refusal} {k : ℕ} → a ≡ Refused r → said_answer a ≡ gives k → ⊥
+pub answer_gives_not_refused : {a : Answer} {r : Refusal} {k : ℕ} → a ≡ A.Refused r → said_answer a ≡ gives k → ⊥
 unfolding said_answer
-gives_not_refused {a} {r} {k} p q =
+answer_gives_not_refused {a} {r} {k} p q =
     let e : refused (number_of r) nothing ≡ gives k = ap said_answer (sym p) ∙ q in
     let z : ◌≡◌ {A = ℕ} 0 1 = cc in
     omega arith

@@ -1,7 +1,7 @@
 -- `figure::rates::searched_load` meets its contract: class and load are within their limits. Assumes nothing.
 use mathlib.Core.Path.{◌≡◌, refl, ◌∙◌}
 use Rattle.refusal.specs.Said.{gives}
-use Rattle.refusal.proofs.Said.{gives_it, gives_not_refused}
+use Rattle.refusal.proofs.Said.{answer_gives_it, answer_gives_not_refused}
 use Rattle.member.proofs.Tests.{in_limits}
 use native.Mathlib.Omega.{arith}
 use Rattle.reduction.specs.Reduced.{reduced_of}
@@ -15,8 +15,8 @@ known s = reduced_known s.args.load 1 s.args.shares.floors s.args.shares.influen
 
 pub returns-in-Gives : goal.returns-in-Gives
 returns-in-Gives c =
-    gives_it c.in-Gives.is (c.reduced_load-answer.ensures ∙ known (goal.at.returns-in-Gives c).Start)
+    answer_gives_it c.in-Gives.is (c.reduced_load-answer.ensures ∙ known (goal.at.returns-in-Gives c).Start)
 
 pub returns-in-Refused : goal.returns-in-Refused
 returns-in-Refused c =
-    absurd (gives_not_refused c.in-Refused.is (c.reduced_load-answer.ensures ∙ known (goal.at.returns-in-Refused c).Start))
+    absurd (answer_gives_not_refused c.in-Refused.is (c.reduced_load-answer.ensures ∙ known (goal.at.returns-in-Refused c).Start))
