@@ -1,110 +1,73 @@
-// Answers questions about one column at a time, and keeps the numbers entered since it was opened.
-ghost use Rattle.std.specs.Prelude.{◌≤◌};
+// One column at a time, and the numbers entered since it was opened.
 ghost use Rattle.column.specs.Column.{Reached};
 
-use crate::print;
 use column::{Column, Line};
 use error_bound::AfterList;
-use member::TributaryArea;
+use figure::Asked;
+use std::alloc::{AllocError, Global};
 
-// Room for the numbers of 300 entries.
+// The most numbers that are kept: those of 300 entries.
 const ROOM: usize = 1200;
 
-// The column, the code that was asked for last, and the numbers entered since.
-#[derive(Clone, Copy)]
+// The column, the code that was asked for last, and the numbers entered since, accepted or not.
+#[derive(Drop)]
 pub struct State {
-    pub column: Column,
-    pub code: u64,
-    pub count: usize,
-    pub numbers: [u64; ROOM],
+    column: Column,
+    code: u64,
+    numbers: Vec<u64>,
+    ghost reached: { ∥ Reached column ∥₁ },
 }
 
-// A state with this column, of which no numbers are kept.
-pub fn state_of(column: Column, code: u64) -> State
-    requires { Reached column }
-    ensures { Reached result.column }
-{
-    State {
-        column: column,
-        code: code,
-        count: 0,
-        numbers: [0; ROOM],
+impl State {
+    // Before the first opening there is an interior column without lines.
+    #[tactic(auto, unfolding(column::specs::Column::opened_of))]
+    pub fn new(alloc: Global) -> State {
+        let first = column::open(1);
+        let column = first.column;
+        State {
+            column,
+            code: 1,
+            numbers: Vec::new(alloc),
+        }
     }
-}
 
-// Opens a member; a refused one leaves the column.
-pub fn open(rt: &impl Print, state: State, code: u64) -> State
-    requires { Reached state.column }
-    ensures { Reached result.column }
-{
-    let opened = column::open(code);
-    print::print_number(rt, opened.number);
-    if opened.number != 0 {
-        let kept = state.column;
-        return state_of(kept, code);
+    // Opens a member; a refused one leaves the column.
+    pub fn open(&mut self, code: u64) -> u64 {
+        let opened = column::open(code);
+        if opened.number == 0 {
+            self.column = opened.column;
+        }
+        self.code = code;
+        self.numbers.clear();
+        opened.number
     }
-    let next = opened.column;
-    state_of(next, code)
-}
 
-// Enters a line, and keeps its numbers, accepted or not.
-pub fn enter(rt: &impl Print, state: State, floor: u64, class: u64, load: u64, area: u64) -> State
-    requires { Reached state.column }
-    ensures { Reached result.column }
-{
-    let line = Line {
-        floor: floor,
-        class: class,
-        load: load,
-        area: TributaryArea(area),
-    };
-    let entered = column::enter(state.column, line);
-    print::print_number(rt, entered.number);
-    let mut next = state;
-    let column = entered.column;
-    next.column = column;
-    let at = state.count;
-    if at <= ROOM - 4 {
-        next.numbers[at] = floor;
-        next.numbers[at + 1] = class;
-        next.numbers[at + 2] = load;
-        next.numbers[at + 3] = area;
-        next.count = at + 4;
+    // Keeps the numbers of an entry while there is room.
+    pub fn keep(&mut self, line: Line) -> Result<(), AllocError> {
+        if self.numbers.len() < ROOM {
+            let numbers = [line.floor, line.class, line.load, line.area.0];
+            self.numbers.extend_from_slice(&numbers)?;
+        }
+        Ok(())
     }
-    next
-}
 
-// Asks the column at a floor.
-pub fn ask(rt: &impl Print, state: State, floor: u64)
-    requires { Reached state.column }
-{
-    print::print_asked(rt, figure::ask(state.column, floor));
-}
-
-// How many of the numbers are left where the last few are left off.
-fn left(count: usize, off: u64) -> usize
-    ensures { result ≤ 1200 }
-{
-    if ROOM < count {
-        return 0;
+    // Enters a line.
+    #[tactic(auto, using(crate::proofs::Reached::reached_anyhow))]
+    pub fn enter(&mut self, line: Line) -> u64 {
+        let entered = column::enter(self.column, line);
+        self.column = entered.column;
+        entered.number
     }
-    if count as u64 <= off {
-        return 0;
+
+    // Asks the column at a floor.
+    #[tactic(auto, using(crate::proofs::Reached::reached_anyhow))]
+    pub fn ask(&self, floor: u64) -> Asked {
+        figure::ask(self.column, floor)
     }
-    count - off as usize
-}
 
-// What asking at a floor gives after the first so many numbers of a list, and which entries were refused.
-fn asked_after(code: u64, numbers: [u64; ROOM], end: usize, floor: u64) -> AfterList
-    requires { end ≤ 1200 }
-{
-    error_bound::figure_after(code, &numbers[..end], floor)
-}
-
-// Asks at a floor after the whole list of numbers, of which the last few are left off; tells too which entries
-// were refused.
-pub fn list(rt: &impl Print, state: State, floor: u64, off: u64) {
-    let numbers = state.numbers;
-    let end = left(state.count, off);
-    print::print_after(rt, asked_after(state.code, numbers, end, floor));
+    // Asks at a floor after the whole list of numbers, of which the last few are left off.
+    pub fn list(&self, floor: u64, off: u64) -> AfterList {
+        let left = (self.numbers.len() as u64).saturating_sub(off) as usize;
+        error_bound::figure_after(self.code, &self.numbers[..left], floor)
+    }
 }

@@ -2,143 +2,53 @@
 // then numbers. Its stored output is the second reckoning's.
 #![tactic(auto)]
 
-ghost use Rattle.std.specs.Prelude.{◌≤◌, length};
-ghost use Rattle.column.specs.Column.{Reached};
-
 use crate::columns::State;
-use reduction::InfluenceArea;
-use refusal::Answer;
+use crate::questions::Question;
+use std::alloc::Global;
 use std::io;
-use std::io::Read;
+use std::io::{BufWriter, Read, Write};
 
 mod columns;
-mod numbers;
 mod print;
+mod questions;
 
 // More than the stored questions take.
 const ROOM: usize = 1048576;
 
-// What a line asks, told by the first letter of its word and how many numbers follow.
-#[derive(Clone, Copy)]
-enum Kind {
-    Factor,
-    Reduced,
-    Open,
-    Enter,
-    Ask,
-    List,
-    Nothing,
-}
-
-// The kind of a word with so many numbers.
-fn kind_of(word: u8, count: usize) -> Kind {
-    match count {
-        1 => match word {
-            b'f' => Kind::Factor,
-            b'o' => Kind::Open,
-            b'a' => Kind::Ask,
-            _ => Kind::Nothing,
-        },
-        2 => match word {
-            b'l' => Kind::List,
-            _ => Kind::Nothing,
-        },
-        4 => match word {
-            b'r' => Kind::Reduced,
-            b'e' => Kind::Enter,
-            _ => Kind::Nothing,
-        },
-        _ => Kind::Nothing,
+// Answers a question.
+fn answer<W: Write>(out: &mut W, state: &mut State, question: Question) -> io::Result<()> {
+    match question {
+        Question::Factor(code) => print::print_answer(out, "factor", member::factor(code)),
+        Question::Reduced {
+            load,
+            class,
+            floors,
+            influence,
+        } => {
+            let reduced = reduction::reduced_load(load, class, floors, influence);
+            print::print_answer(out, "reduced", reduced)
+        }
+        Question::Open(code) => print::print_number(out, state.open(code)),
+        Question::Enter(line) => {
+            state.keep(line)?;
+            print::print_number(out, state.enter(line))
+        }
+        Question::Ask(floor) => print::print_asked(out, state.ask(floor)),
+        Question::List { floor, off } => print::print_after(out, state.list(floor, off)),
     }
 }
 
-// What a line asks, and its numbers.
-#[derive(Clone, Copy)]
-struct Question {
-    kind: Kind,
-    numbers: [u64; 4],
-}
-
-// The place of the first such byte from a place on; the end of the text where there is none.
-fn end_of(text: &[u8], from: usize, byte: u8) -> usize
-    requires { from ≤ length text.now }
-    ensures low { from ≤ result }
-    ensures high { result ≤ length text.now }
-{
-    for at in from..text.len() {
-        if text[at] == byte {
-            return at;
+// Answers every line of a text, the last with or without its newline; a line that asks nothing is `unread`.
+fn answer_all<W: Write>(alloc: Global, out: &mut W, text: &[u8]) -> io::Result<()> {
+    let mut state = State::new(alloc);
+    for line in text.split_inclusive(|byte| *byte == b'\n') {
+        let line = line.strip_suffix(b"\n").unwrap_or(line);
+        match questions::read(alloc, line)? {
+            Some(question) => answer(out, &mut state, question)?,
+            None => print::unread(out)?,
         }
     }
-    text.len()
-}
-
-// Reads a line.
-fn read_question(line: &[u8]) -> Question {
-    let blank = end_of(line, 0, b' ');
-    if line.len() <= blank {
-        return Question {
-            kind: Kind::Nothing,
-            numbers: [0; 4],
-        };
-    }
-    let reading = numbers::read_all(&line[blank + 1..]);
-    let given = reading.numbers;
-    if !numbers::ended_well(reading) {
-        return Question {
-            kind: Kind::Nothing,
-            numbers: given,
-        };
-    }
-    if 3 < reading.at {
-        return Question {
-            kind: Kind::Nothing,
-            numbers: given,
-        };
-    }
-    Question {
-        kind: kind_of(line[0], reading.at + 1),
-        numbers: given,
-    }
-}
-
-// The reduced load of a load, a class, a number of floors and an influence area.
-fn reduced_load(n: [u64; 4]) -> Answer {
-    reduction::reduced_load(n[0], n[1], n[2], InfluenceArea(n[3]))
-}
-
-// Answers one line; a line that asks nothing is `unread`.
-fn answer(rt: &impl Print, state: State, line: &[u8]) -> State
-    requires { Reached state.column }
-    ensures { Reached result.column }
-{
-    let asked = read_question(line);
-    let n = asked.numbers;
-    let kind = asked.kind;
-    match kind {
-        Kind::Factor => print::print_answer(rt, b"factor=", member::factor(n[0])),
-        Kind::Reduced => print::print_answer(rt, b"reduced=", reduced_load(n)),
-        Kind::Open => return columns::open(rt, state, n[0]),
-        Kind::Enter => return columns::enter(rt, state, n[0], n[1], n[2], n[3]),
-        Kind::Ask => columns::ask(rt, state, n[0]),
-        Kind::List => columns::list(rt, state, n[0], n[1]),
-        Kind::Nothing => print::unread(rt),
-    }
-    state
-}
-
-// Answers every line of a text, the last with or without its newline. Before the first opening
-// there is an interior column without lines.
-fn answer_all(rt: &impl Print, text: &[u8]) {
-    let first = column::open(1);
-    let column = first.column;
-    let mut state = columns::state_of(column, 1);
-    let mut at = 0;
-    while at < text.len() {
-        let end = end_of(text, at, b'\n');
-        state = answer(rt, state, &text[at..end]);
-        at = end + 1;
-    }
+    Ok(())
 }
 
 // Reads all questions, then answers them.
@@ -148,6 +58,7 @@ fn main(rt: HostRuntime) -> io::Result<()> {
     if text.len() == ROOM {
         return eprintln!(rt; "trial: too many questions");
     }
-    answer_all(&rt, &text);
-    Ok(())
+    let mut out = BufWriter::new(rt.alloc(), io::writer(&rt))?;
+    answer_all(rt.alloc(), &mut out, &text)?;
+    out.flush()
 }

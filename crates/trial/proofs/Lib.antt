@@ -1,0 +1,2 @@
+-- What the functions' proofs use.
+pub mod Reached
