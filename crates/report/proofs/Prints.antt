@@ -3,12 +3,13 @@
 use mathlib.Core.Path.{◌≡◌, refl, sym, ◌∙◌, ap, subst⁻¹}
 use mathlib.Core.List.{List, []}
 use Prim.Native.Nat.{ℕ, ◌≤◌}
-use lib.ListN.{length, take}
+use lib.ListN.{length}
 use borrow.Author.Tests.{eq-eqb}
 use Rattle.refusal.proofs.Said.{not_zero}
 use Rattle.text.specs.Text.{joined}
 use Rattle.text.specs.Put.{fronted}
-use Rattle.text.proofs.Puts.{fronted_take}
+use Rattle.io.specs.Counts.{IsPrefixLen}
+use Rattle.text.proofs.Puts.{Front}
 use Rattle.sheet.specs.declared.Reading.{Reading}
 use Rattle.sheet.specs.Sheet.{read_sheet}
 use Rattle.report.specs.declared.Reported.{Reported}
@@ -38,16 +39,28 @@ prints text =
       refused = λ n. rw (not_zero n) refl;
     }
 
--- so the front of a buffer is all that takedown prints, where a report or the line of its refusal was put there
+-- so the text that is put at the front of a buffer is all that takedown prints, where a report or the line of its refusal is
+-- put there
 module _ (text before : List ℕ) {after : List ℕ} {r : Reported} (e : r ≡ reported_of text) where
-  pub read_front : r.number ≡ 0 → after ≡ fronted (put_of text) before → take r.length after ≡ report_of text
+  pub read_front : r.number ≡ 0 → after ≡ fronted (put_of text) before → IsPrefixLen r.length after → Front before (report_of text) after r.length
   unfolding reported_of
-  read_front n p = ap (λ (o : Reported). take o.length after) e ∙ (ap (take (length (put_of text))) p ∙ (fronted_take (put_of text) before ∙ sym ((prints text).read (sym (ap (λ (o : Reported). o.number) e) ∙ n))))
+  read_front n p q =
+      let all : report_of text ≡ put_of text = (prints text).read (sym (ap (λ (o : Reported). o.number) e) ∙ n) in
+      record {
+        ends = ap (λ (o : Reported). o.length) e ∙ sym (ap length all);
+        is = p ∙ sym (ap (λ (t : List ℕ). fronted t before) all);
+        counts = q;
+      }
 
-  pub refused_front : {k : ℕ} → 1 ≤ r.number → k ≡ length (refusal_text r.number r.line) → after ≡ fronted (refusal_text r.number r.line) before
-      → take k after ≡ report_of text
-  refused_front n q p =
-      let t = refusal_text r.number r.line in
-      ap (λ (k : ℕ). take k after) q
-      ∙ (ap (take (length t)) p
-      ∙ (fronted_take t before ∙ sym (subst⁻¹ (λ (o : Reported). 1 ≤ o.number → report_of text ≡ refusal_text o.number o.line) e (prints text).refused n)))
+  pub refused_front : {between : List ℕ} {k : ℕ} → 1 ≤ r.number → between ≡ fronted (put_of text) before → k ≡ length (refusal_text r.number r.line)
+      → after ≡ fronted (refusal_text r.number r.line) between → IsPrefixLen k after → Front before (report_of text) after k
+  unfolding reported_of put_of fronted
+  refused_front {between} n b q p c =
+      let all : report_of text ≡ refusal_text r.number r.line = subst⁻¹ (λ (o : Reported). 1 ≤ o.number → report_of text ≡ refusal_text o.number o.line) e (prints text).refused n in
+      let one : 1 ≤ (read_sheet text).number = rw (ap (λ (o : Reported). o.number) e) at n in
+      let same : between ≡ before = b ∙ rw (not_zero one) refl in
+      record {
+        ends = q ∙ sym (ap length all);
+        is = p ∙ (ap (fronted (refusal_text r.number r.line)) same ∙ sym (ap (λ (t : List ℕ). fronted t before) all));
+        counts = c;
+      }

@@ -4,7 +4,7 @@
 ghost use Rattle.std.specs.Prelude.{◌≡◌, length};
 ghost use Rattle.io.specs.Counts.{IsPrefixLen};
 ghost use Rattle.text.specs.Put.{fronted};
-ghost use Rattle.report.specs.Report.{put_of, reported_of, refusal_text};
+ghost use Rattle.report.specs.Report.{put_of, reported_of, refusal_text, report_of};
 
 mod lines;
 mod takedown;
@@ -56,4 +56,18 @@ pub fn put_refusal(number: u64, line: u64, out: &mut [u8; ROOM]) -> usize
     ensures prefix_len { IsPrefixLen result out.new }
 {
     lines::put_refusal(out, number, line)
+}
+
+// Puts all that takedown prints for a text at the front of a buffer, its take-down or the line of its
+// refusal; gives how many bytes that is.
+pub fn put_printed(text: &[u8], out: &mut [u8; ROOM]) -> usize
+    ensures value { result ≡ length (report_of text.now) }
+    ensures out_after { out.new ≡ fronted (report_of text.now) out.old }
+    ensures prefix_len { IsPrefixLen result out.new }
+{
+    let reported = report(text, out);
+    if reported.number == 0 {
+        return reported.length;
+    }
+    put_refusal(reported.number, reported.line, out)
 }

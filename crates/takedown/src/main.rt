@@ -20,11 +20,7 @@ fn put_printed(buffer: &[u8], count: usize, out: &mut [u8; report::ROOM]) -> usi
     ensures out_after { take result out.new ≡ report_of (take count buffer.now) }
     ensures prefix_len { IsPrefixLen result out.new }
 {
-    let reported = report::report(&buffer[..count], out);
-    if reported.number == 0 {
-        return reported.length;
-    }
-    report::put_refusal(reported.number, reported.line, out)
+    report::put_printed(&buffer[..count], out)
 }
 
 // Whether words stand behind the program's name on its command line.

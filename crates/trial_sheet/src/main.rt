@@ -26,17 +26,6 @@ fn write_number(rt: &impl Print, name: &[u8], n: usize) -> io::Result<()> {
     print!(rt; "{n}")
 }
 
-// Puts all that takedown prints for a sheet, and gives how many bytes that is.
-fn put_printed(text: &[u8], out: &mut [u8; report::ROOM]) -> usize
-    ensures { IsPrefixLen result out.new }
-{
-    let reported = report::report(text, out);
-    if reported.number == 0 {
-        return reported.length;
-    }
-    report::put_refusal(reported.number, reported.line, out)
-}
-
 // An effect of a sheet as a double; none that is read is beyond the limit.
 fn double_of(effect: i64) -> f64 {
     if !newtons::is_within(effect) {
@@ -122,7 +111,7 @@ fn answer_back(rt: &impl Print, text: &[u8]) -> io::Result<()> {
 // Prints the report of a sheet, then where the part that is refused starts and ends, and the part.
 fn answer(rt: &impl Print, text: &[u8]) -> io::Result<()> {
     let mut out = [0u8; report::ROOM];
-    let size = put_printed(text, &mut out);
+    let size = report::put_printed(text, &mut out);
     write(rt, &out[..size])?;
     let reading = sheet::read(text);
     write_number(rt, b"start=", reading.start)?;
