@@ -2,11 +2,11 @@
 -- Assumes nothing.
 use mathlib.Core.Path.{◌≡◌, refl}
 use mathlib.Core.List.{List, [], ◌∷◌}
-use Prim.Native.Nat.{ℕ, ◌+◌, ◌≤◌, ◌<◌}
+use Prim.Native.Nat.{ℕ, ◌+◌, ◌-◌, ◌≤◌, ◌<◌}
 use native.Mathlib.Numerals.{add-one}
 use native.Mathlib.Omega.{arith}
 use lib.ListN.{length, take, drop, get_or, length-drop}
-use lib.Seq.{drop-cons}
+use lib.Seq.{drop-cons, take_all}
 use Rattle.column.specs.declared.Line.{Line}
 use Rattle.column.specs.Line.{line, entries_of}
 
@@ -44,3 +44,10 @@ entries_end ns i h = few (drop i ns) (rw (length-drop i ns) (omega arith))
 pub entries_one : (ns : List ℕ) (i n : ℕ) → n ≡ 4 → i + 4 ≤ length ns → entries_of (take n (drop i ns)) ≡ entry_at ns i ∷ []
 unfolding entries_of
 entries_one ns i n e h = rw (e, four ns i h)
+
+-- the first of some numbers and those after them, as a pattern takes a list apart
+pub entries_first : (ns : List ℕ) → 4 ≤ length ns → entries_of ns ≡ entry_at ns 0 ∷ entries_of (take (length ns - 4) (drop 4 ns))
+entries_first ns h = rw (take_all (length ns - 4) (drop 4 ns) (omega (arith, length-drop 4 ns))) (entries_next ns 0 h)
+
+pub entries_few : (ns : List ℕ) → length ns < 4 → entries_of ns ≡ []
+entries_few = few

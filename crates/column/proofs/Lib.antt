@@ -5,6 +5,7 @@ pub mod Columns
 pub mod Reach
 pub mod InTurn
 pub mod Seen
+pub mod InPlace
 pub mod Entries
 pub mod Entering
 pub mod EntryNumbers

@@ -1,12 +1,12 @@
 -- A column that is lent in its parts is a reached one, and a reached one may be lent.
 -- Assumes nothing.
-use Rattle.std.proofs.Common.{◌≡◌, refl, sym, ◌∙◌, ap, List, [], ◌∷◌, ◌++◌, ℕ}
+use Rattle.std.proofs.Common.{◌≡◌, refl, sym, ◌∙◌, ap, List, [], ◌∷◌, ◌++◌}
 use Rattle.column.specs.declared.Line.{Line}
 use Rattle.column.specs.declared.Member.{Member}
 use Rattle.column.specs.declared.Column.{Column}
 use Rattle.column.specs.declared.lent.ColumnRef.{ColumnRef}
 use Rattle.column.specs.Accepted.{entry_number, joined, accepted_from, accepted}
-use Rattle.column.specs.Column.{lines_of, column_of, column_from, opened_of, after, Reached}
+use Rattle.column.specs.Column.{lines_of, column_of, opened_of, Reached}
 use Rattle.column.specs.Lent.{entered_again}
 use Rattle.column.specs.Seen.{column_seen}
 use Rattle.column.specs.theorems.InTurn.{AcceptedInTurn, none, more}

@@ -1,6 +1,9 @@
 -- Paper 01, "Member, line, floor" and "Numbers by the place of checking": a column, and what opening and entering give.
 -- Assumes nothing.
-use Rattle.std.specs.Prelude.{◌≡◌, cond, List, [], ◌∷◌, ◌++◌, map, ℕ, ◌-◌, eqb, length, take, replicate}
+use Rattle.std.specs.Prelude.{◌≡◌, cond, List, [], ◌∷◌, ◌++◌, map, ℕ, ◌-◌, eqb, length, take, replicate, Result, Ok, Err}
+use Rattle.refusal.specs.declared.Refusal.{Refusal}
+use Rattle.refusal.specs.Refusal.{number_of}
+use Rattle.refusal.specs.Said.{number_told}
 use Rattle.member.specs.Between.{between}
 use Rattle.column.specs.declared.Line.{Line}
 use Rattle.column.specs.declared.Member.{Member}
@@ -68,3 +71,18 @@ opened_outcome o = record { number = o.number; column = column_of o.member [] }
 -- make
 unfoldable pub joined_outcome : Member → Joined → List ℕ → Outcome
 joined_outcome m j places = record { number = j.number; column = column_from m j.count places }
+
+-- No part of the paper: the outcome of opening, where what is given stands for a column
+unfoldable pub opened_as : {A : Type 0} → (A → Column) → Result A Refusal → Outcome
+opened_as column (Ok a) = record { number = 0; column = column a }
+opened_as column (Err r) = record { number = number_of r; column = unopened }
+
+-- No part of the paper: how many lines are held after entering in place
+unfoldable pub count_after : ℕ → Result ℕ Refusal → ℕ
+count_after n (Ok k) = k
+count_after n (Err r) = n
+
+-- No part of the paper: the outcome of entering in place, which leaves the column that the member, the count and the places
+-- then make
+unfoldable pub entered_outcome : Member → ℕ → Result ℕ Refusal → List ℕ → Outcome
+entered_outcome m n r places = record { number = number_told r; column = column_from m (count_after n r) places }

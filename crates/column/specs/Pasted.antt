@@ -1,6 +1,9 @@
 -- Paper 02, "CR 1. A whole floor pasted in": a list of lines entered by one call, up to and with the first refused one.
 -- Assumes nothing.
-use Rattle.std.specs.Prelude.{cond, List, [], ◌∷◌, ℕ, ◌+◌, eqb}
+use Rattle.std.specs.Prelude.{cond, List, [], ◌∷◌, ℕ, ◌+◌, eqb, Option, Some, None}
+use Rattle.refusal.specs.declared.Refusal.{Refusal}
+use Rattle.refusal.specs.Refusal.{number_of}
+use Rattle.column.specs.declared.in_place.PastedLines.{PastedLines}
 use Rattle.column.specs.declared.Line.{Line}
 use Rattle.column.specs.declared.Member.{Member}
 use Rattle.column.specs.declared.Column.{Column}
@@ -31,3 +34,12 @@ pasted_of c lines = pasted_from 0 c lines
 -- and the places then make
 unfoldable pub pasted_outcome : Member → Pasted → List ℕ → Pasting
 pasted_outcome m p places = record { number = p.number; kept = p.kept; column = column_from m p.count places }
+
+-- 01, Numbers by the place of checking: the number of a refusal; 0 where there is none
+unfoldable pub number_or_0 : Option Refusal → ℕ
+number_or_0 (Some r) = number_of r
+number_or_0 None = 0
+
+-- No part of the paper: what the answer of a paste says, with the column then
+unfoldable pub paste_outcome : PastedLines → Column → Pasting
+paste_outcome p c = record { number = number_or_0 p.refusal; kept = p.kept; column = c }

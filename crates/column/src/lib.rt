@@ -11,7 +11,10 @@ pub use lent::ColumnRef;
 use member::{TributaryArea, limits};
 use refusal::Refusal;
 
+mod changing;
+mod check;
 mod conditions;
+pub mod in_place;
 mod lent;
 mod numbers;
 mod places;

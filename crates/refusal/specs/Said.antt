@@ -35,3 +35,8 @@ said (Err r) = refused (number_of r) nothing
 unfoldable pub told : {A B : Type 0} → Result A (Refused B) → Told B A
 told (Ok a) = gives a
 told (Err r) = refused (number_of r.refusal) r.back
+
+-- 01, Numbers by the place of checking: the number of the first condition that holds; 0 where none does
+unfoldable pub number_told : {A : Type 0} → Result A Refusal → ℕ
+number_told (Ok a) = 0
+number_told (Err r) = number_of r

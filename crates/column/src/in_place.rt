@@ -1,0 +1,80 @@
+// Entering and pasting in place, on the column that a member, a count and its lent places make, as C lends it. A struct
+// of the three, with the places behind a `&mut`, would be no plainer: each call would have to say that it keeps the reference.
+ghost use Rattle.std.specs.Prelude.{◌≡◌, ◌+◌};
+ghost use Rattle.column.specs.Line.{entries_of};
+ghost use Rattle.column.specs.Accepted.{last_floor};
+ghost use Rattle.column.specs.Column.{lines_of, column_from, entered_of, Reached, count_after, entered_outcome};
+ghost use Rattle.column.specs.Pasted.{pasted_of, paste_outcome};
+
+use crate::{Line, Member, Places, check, places};
+use member::TributaryArea;
+use refusal::Refusal;
+
+// What pasting gives: how many lines of the list were kept, and why the next one was not.
+#[derive(Clone, Copy)]
+pub struct PastedLines {
+    pub kept: u16,
+    pub refusal: Option<Refusal>,
+}
+
+// Enters a line where the floor of the last line is known.
+fn enter_below(
+    held: &mut Places,
+    member: Member,
+    count: u16,
+    last: u64,
+    line: Line,
+) -> Result<u16, Refusal>
+    requires reached { Reached (column_from member count held.old) }
+    requires last_value { last ≡ last_floor (lines_of (column_from member count held.old)) }
+    ensures entered { entered_outcome member count result held.new ≡ entered_of (column_from member count held.old) line }
+    ensures reached { Reached (column_from member (count_after count result) held.new) }
+{
+    check::check(member, count as u64, last, line)?;
+    held[count as usize] = places::number_of(line);
+    Ok(count + 1)
+}
+
+// Enters a line, and gives how many are then held; refused, with the places as they were, where a condition for
+// entering a line holds.
+pub fn enter(held: &mut Places, member: Member, count: u16, line: Line) -> Result<u16, Refusal>
+    requires { Reached (column_from member count held.old) }
+    ensures entered { entered_outcome member count result held.new ≡ entered_of (column_from member count held.old) line }
+    ensures reached { Reached (column_from member (count_after count result) held.new) }
+{
+    let last = places::last_floor_of(held, count);
+    enter_below(held, member, count, last, line)
+}
+
+// Pastes a lent list of numbers, four a line: enters its lines one after another, up to and with the first refused one. The
+// lines before that one are kept, and those after it are not looked at.
+pub fn paste(held: &mut Places, member: Member, count: u16, lines: &[u64]) -> PastedLines
+    requires { Reached (column_from member count held.old) }
+    ensures pasted { paste_outcome result (column_from member (count + result.kept) held.new) ≡ pasted_of (column_from member count held.old) (entries_of lines.now) }
+    ensures reached { Reached (column_from member (count + result.kept) held.new) }
+{
+    let mut kept = 0;
+    let mut last = places::last_floor_of(held, count);
+    let mut rest = lines;
+    while let [floor, class, load, area, after @ ..] = rest {
+        let line = Line {
+            floor: *floor,
+            class: *class,
+            load: *load,
+            area: TributaryArea(*area),
+        };
+        if let Err(refusal) = enter_below(held, member, count + kept, last, line) {
+            return PastedLines {
+                kept,
+                refusal: Some(refusal),
+            };
+        }
+        kept += 1;
+        last = line.floor;
+        rest = after;
+    }
+    PastedLines {
+        kept,
+        refusal: None,
+    }
+}
