@@ -5,7 +5,6 @@ ghost use Rattle.reduction.specs.Reduced.{reduced_of};
 ghost use Rattle.exports.specs.Exported.{shown_reduced};
 
 use reduction::InfluenceArea;
-use refusal::Answer;
 
 // The reduced load: the paper's number, 0 where none holds, and R, which is 0 where it is refused.
 #[repr(C)]
@@ -28,12 +27,12 @@ pub extern "C" fn bungero_reduced_load(
     let x = InfluenceArea(influence);
     let answer = reduction::reduced_load(load, class, floors, x);
     match answer {
-        Answer::Gives(reduced) => BungeroReduced {
+        Ok(reduced) => BungeroReduced {
             number: 0,
             reduced: reduced,
         },
-        Answer::Refused(refusal) => BungeroReduced {
-            number: refusal::number(refusal),
+        Err(refusal) => BungeroReduced {
+            number: refusal.number(),
             reduced: 0,
         },
     }

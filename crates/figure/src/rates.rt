@@ -11,7 +11,6 @@ ghost use Rattle.figure.specs.inner.Rates.{twentieths_rate, rate_of, shares_at, 
 use column::Member;
 use member::TributaryArea;
 use reduction::InfluenceArea;
-use refusal::Answer;
 
 // A share in units of 2⁻²⁶: of a load it is (load × times + plus) / 2²⁶, rounded down, unless load × doubt
 // more would give another number.
@@ -62,11 +61,8 @@ fn influence_of(member: Member, area: TributaryArea) -> InfluenceArea
     requires { (between 1 12 member.code ≡ true) × (area.0 ≤ 51200000) }
     ensures { result ≡ influence_from member area.0 }
 {
-    let answer = member::factor(member.code as u64);
-    match answer {
-        Answer::Gives(factor) => InfluenceArea(factor * area.0),
-        Answer::Refused(_) => InfluenceArea(0),
-    }
+    let factor = member::factor(member.code as u64).unwrap();
+    InfluenceArea(factor * area.0)
 }
 
 // The rate of so many twentieths.
@@ -121,12 +117,7 @@ fn searched_load(load: u64, shares: Shares) -> u64
     requires { (1 ≤ load) × (load ≤ 5000) }
     ensures { result ≡ formula_load shares load }
 {
-    let x = shares.influence;
-    let answer = reduction::reduced_load(load, 1, shares.floors, x);
-    match answer {
-        Answer::Gives(reduced) => reduced,
-        Answer::Refused(_) => 0,
-    }
+    reduction::reduced_load(load, 1, shares.floors, shares.influence).unwrap()
 }
 
 // R of a formula line.

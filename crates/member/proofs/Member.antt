@@ -1,6 +1,6 @@
 -- Laws of the factor K.
 -- Assumes nothing.
-use mathlib.Core.Path.{◌≡◌, refl, ◌∙◌, ap}
+use mathlib.Core.Path.{◌≡◌, refl, ap}
 use mathlib.Core.Bool.{Bool, true, ◌&&◌, and-eq-true_iff}
 use mathlib.Core.List.{List, [], ◌∷◌}
 use Prim.Native.Nat.{ℕ, zero, suc, ◌-◌, ◌≤◌}
@@ -8,11 +8,7 @@ use native.Mathlib.Omega.{arith}
 use lib.Dec.{leb}
 use lib.ListN.{get_or}
 use borrow.Author.Tests.{leb-true}
-use Rattle.refusal.specs.declared.Refusal.{Refusal}
-use Rattle.refusal.specs.declared.Answer.{Answer}
-use Rattle.refusal.specs.declared.Answer.TheVariants.{Gives, Refused}
-use Rattle.refusal.specs.Said.{said_answer, gives}
-use Rattle.refusal.proofs.Said.{answer_gives_it, answer_gives_not_refused}
+use Rattle.refusal.specs.Said.{gives}
 use Rattle.member.specs.Between.{between}
 use Rattle.member.specs.Member.{table4_2, table_factor, factor_of}
 
@@ -42,13 +38,3 @@ pub factor_row : (code : ℕ) → 1 ≤ code → get_or table4_2 (code - 1) 0 �
 unfolding table_factor
 factor_row zero h = absurd (omega arith)
 factor_row (suc n) h = ap (λ (k : ℕ). get_or table4_2 k 0) (omega arith)
-
--- the answer to a code 1 to 12 gives its factor, and is no refusal
-module _ (code : ℕ) (ok : between 1 12 code ≡ true) {a : Answer} (asked : said_answer a ≡ factor_of code) where
-  pub factor_given : {k : ℕ} → a ≡ Gives k → (k ≡ table_factor code) × (k ≤ 4)
-  factor_given e =
-      let is = answer_gives_it e (asked ∙ factor_known code ok) in
-      (is, rw is (factor_most code))
-
-  pub factor_not_refused : {q : Refusal} → a ≡ Refused q → ⊥
-  factor_not_refused e = answer_gives_not_refused e (asked ∙ factor_known code ok)

@@ -2,11 +2,11 @@
 #![tactic(auto)]
 
 ghost use Rattle.std.specs.Prelude.{◌≡◌};
-ghost use Rattle.refusal.specs.Said.{said_answer};
+ghost use Rattle.refusal.specs.Said.{said};
 ghost use Rattle.member.specs.Member.{factor_of};
 ghost use Rattle.member.specs.Line.{is_formula};
 
-use refusal::{Answer, Refusal};
+use refusal::Refusal;
 
 pub mod limits;
 
@@ -19,14 +19,14 @@ pub struct TributaryArea(pub u64);
 const FACTORS: [u64; 12] = [4, 4, 3, 2, 2, 2, 1, 1, 1, 1, 1, 1];
 
 // The factor K of a member's code; refused where there is no such code.
-pub fn factor(code: u64) -> Answer
-    ensures { said_answer result ≡ factor_of code }
+pub fn factor(code: u64) -> Result<u64, Refusal>
+    ensures { said result ≡ factor_of code }
 {
     if !limits::is_between(1, 12, code) {
-        return Answer::Refused(Refusal::UnknownCode);
+        return Err(Refusal::UnknownCode);
     }
     let row = (code - 1) as usize;
-    Answer::Gives(FACTORS[row])
+    Ok(FACTORS[row])
 }
 
 // Whether a line's load is reduced by the formula.

@@ -4,14 +4,14 @@
 ghost use Rattle.std.specs.Prelude.{◌≡◌, true, ◌≤◌};
 ghost use Rattle.member.specs.Between.{between};
 ghost use Rattle.member.specs.Line.{is_formula};
-ghost use Rattle.refusal.specs.Said.{said_answer};
+ghost use Rattle.refusal.specs.Said.{said};
 ghost use Rattle.reduction.specs.declared.InfluenceArea.{InfluenceArea};
 ghost use Rattle.reduction.specs.Share.{clamped_of, heavy_twentieths, other_twentieths};
 ghost use Rattle.reduction.specs.Reduced.{reduced_of};
 ghost use Rattle.reduction.specs.Scale.{scale_of};
 
 use member::limits;
-use refusal::{Answer, Refusal};
+use refusal::Refusal;
 use share::Share;
 
 mod rounding;
@@ -72,23 +72,23 @@ pub fn root_scale(floors: u64, x: InfluenceArea) -> u64
 
 // The reduced load R of a line that the formula is not for, or of one without a load, whatever the influence
 // area; refused where the class or the load is outside its limits.
-fn other_load(load: u64, class: u64, floors: u64) -> Answer
+fn other_load(load: u64, class: u64, floors: u64) -> Result<u64, Refusal>
     requires { is_formula load class ≡ true → load ≡ 0 }
-    ensures { (x : InfluenceArea) → said_answer result ≡ reduced_of load class floors x }
+    ensures { (x : InfluenceArea) → said result ≡ reduced_of load class floors x }
 {
     if !limits::is_between(1, 3, class) {
-        return Answer::Refused(Refusal::UnknownClass);
+        return Err(Refusal::UnknownClass);
     }
     if !limits::is_between(1, 50000, load) {
-        return Answer::Refused(Refusal::LoadOutOfRange);
+        return Err(Refusal::LoadOutOfRange);
     }
-    Answer::Gives(rounding::twentieths_of(other_twentieths(class, floors), load))
+    Ok(rounding::twentieths_of(other_twentieths(class, floors), load))
 }
 
 // The reduced load R of a line, at n floors and the influence area x; refused where the class or
 // the load is outside its limits. The papers leave 0 floors free: it is then that of one floor.
-pub fn reduced_load(load: u64, class: u64, floors: u64, x: InfluenceArea) -> Answer
-    ensures { said_answer result ≡ reduced_of load class floors x }
+pub fn reduced_load(load: u64, class: u64, floors: u64, x: InfluenceArea) -> Result<u64, Refusal>
+    ensures { said result ≡ reduced_of load class floors x }
 {
     // a formula line with a load is within its limits
     if !member::is_formula(load, class) {
@@ -97,5 +97,5 @@ pub fn reduced_load(load: u64, class: u64, floors: u64, x: InfluenceArea) -> Ans
     if load == 0 {
         return other_load(load, class, floors);
     }
-    Answer::Gives(rounding::rounded(share::formula_share(floors, x), load))
+    Ok(rounding::rounded(share::formula_share(floors, x), load))
 }

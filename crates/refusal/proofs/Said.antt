@@ -1,6 +1,6 @@
 -- What an answer says leaves one answer: each refusal has its own number.
 -- Assumes nothing.
-use Rattle.std.specs.Prelude.{Result, Ok, Err}
+use Rattle.std.specs.Prelude.{Result, Ok, Err, IsOk}
 use mathlib.Core.Path.{◌≡◌, refl, sym, ◌∙◌, ap}
 use mathlib.Core.Bool.{false}
 use mathlib.Core.List.{List, [], ◌∷◌}
@@ -14,9 +14,7 @@ use Rattle.refusal.specs.declared.Refusal.TheVariants.{UnknownCode, TooManyLines
 use Rattle.refusal.specs.declared.Refusal.TheVariants.{NoLineAtFloor, EffectNotWhole, EffectOutOfRange, SheetMalformed, SheetTooLong, BufferTooShort}
 use Rattle.refusal.specs.declared.Refused.{Refused}
 use Rattle.refusal.specs.Refusal.{number_of}
-use Rattle.refusal.specs.declared.Answer.{Answer}
-use Rattle.refusal.specs.declared.Answer.TheVariants as A
-use Rattle.refusal.specs.Said.{gives, refused, said, told, said_answer, nothing}
+use Rattle.refusal.specs.Said.{gives, said, told}
 
 refusals : List Refusal
 refusals =
@@ -126,6 +124,9 @@ unfolding said
 is_given (Ok x) {y} q = cc
 is_given (Err r) {y} q = cc
 
+pub gives_ok : {A : Type 0} (a : Result A Refusal) {y : A} → said a ≡ gives y → IsOk a
+gives_ok a {y} q = let is : a ≡ Ok y = is_given a q in rw is
+
 -- the same where something comes back
 pub told_gives_it : {A B : Type 0} {a : Result A (Refused B)} {x y : A} → a ≡ Ok x → told a ≡ gives y → x ≡ y
 unfolding told
@@ -144,16 +145,5 @@ unfolding told
 told_is_given (Ok x) {y} q = cc
 told_is_given (Err r) {y} q = cc
 
--- the same of `Answer`, until nothing uses it
-pub answer_gives_it : {a : Answer} {n k : ℕ} → a ≡ A.Gives n → said_answer a ≡ gives k → n ≡ k
-unfolding said_answer
-answer_gives_it {a} {n} {k} p q =
-    let e : gives n ≡ gives k = ap said_answer (sym p) ∙ q in
-    cc
-
-pub answer_gives_not_refused : {a : Answer} {r : Refusal} {k : ℕ} → a ≡ A.Refused r → said_answer a ≡ gives k → ⊥
-unfolding said_answer
-answer_gives_not_refused {a} {r} {k} p q =
-    let e : refused (number_of r) nothing ≡ gives k = ap said_answer (sym p) ∙ q in
-    let z : ◌≡◌ {A = ℕ} 0 1 = cc in
-    omega arith
+pub told_gives_ok : {A B : Type 0} (a : Result A (Refused B)) {y : A} → told a ≡ gives y → IsOk a
+told_gives_ok a {y} q = let is : a ≡ Ok y = told_is_given a q in rw is

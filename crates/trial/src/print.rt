@@ -1,7 +1,7 @@
 // Prints answers, a line each.
 use error_bound::AfterList;
 use figure::Asked;
-use refusal::Answer;
+use refusal::Refusal;
 use std::io::Write;
 use std::{fmt, io};
 
@@ -29,10 +29,10 @@ pub fn unread<W: Write>(out: &mut W) -> io::Result<()> {
 }
 
 // Prints what a call gave under its name, or the number of its refusal.
-pub fn print_answer<W: Write>(out: &mut W, name: &str, answer: Answer) -> io::Result<()> {
+pub fn print_answer<W: Write>(out: &mut W, name: &str, answer: Result<u64, Refusal>) -> io::Result<()> {
     match answer {
-        Answer::Gives(n) => writeln!(out, "{name}={n}"),
-        Answer::Refused(refusal) => {
+        Ok(n) => writeln!(out, "{name}={n}"),
+        Err(refusal) => {
             let number = refusal.number();
             writeln!(out, "refused={number}")
         }

@@ -3,7 +3,7 @@ use mathlib.Core.Path.{◌≡◌, refl}
 use mathlib.Core.Bool.{Bool, true, false}
 use native.Mathlib.Omega.{arith}
 use Rattle.refusal.specs.Refusal.{number_of}
-use Rattle.refusal.specs.Said.{said_answer}
+use Rattle.refusal.specs.Said.{said}
 use Rattle.member.specs.Between.{between}
 use Rattle.member.specs.Line.{is_formula}
 use Rattle.reduction.specs.Reduced.{reduced_of}
@@ -30,11 +30,11 @@ not_formula c =
         absurd (omega (arith, c.requires e, (limits 1 50000 c.args.load (load_known c)).0))
 
 pub returns-then-not-is_between : goal.returns-then-not-is_between
-unfolding said_answer number_of reduced_of
+unfolding said number_of reduced_of
 returns-then-not-is_between c = λ x. rw (failed c.is_between.ensures c.if-not-is_between.true)
 
 pub returns-then-not-is_between-2 : goal.returns-then-not-is_between-2
-unfolding said_answer number_of reduced_of
+unfolding said number_of reduced_of
 returns-then-not-is_between-2 c = λ x. rw (class_known (goal.at.returns-then-not-is_between-2 c).Else-not-is_between, failed c.is_between-2.ensures c.if-not-is_between-2.true)
 
 pub other_twentieths-requires : goal.other_twentieths-requires
@@ -45,7 +45,7 @@ twentieths_of-requires c =
     (rw c.other_twentieths.ensures (other_within c.args.class c.args.floors).1, (limits 1 50000 c.args.load (load_known (goal.at.twentieths_of-requires c).Else-not-is_between-2)).1)
 
 pub returns : goal.returns
-unfolding said_answer reduced_of
+unfolding said reduced_of
 returns c =
     let t = (goal.at.returns c).Else-not-is_between-2 in
     λ x.

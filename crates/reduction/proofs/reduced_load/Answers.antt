@@ -3,7 +3,7 @@ use mathlib.Core.Path.{◌≡◌, sym, ◌∙◌, subst⁻¹}
 use mathlib.Core.Bool.{true, false≢true}
 use Prim.Native.Nat.{◌≤◌}
 use native.Mathlib.Omega.{arith}
-use Rattle.refusal.specs.Said.{said_answer}
+use Rattle.refusal.specs.Said.{said}
 use Rattle.reduction.specs.declared.share.Share.{Share}
 use Rattle.member.specs.Line.{is_formula}
 use Rattle.member.specs.Between.{between}
@@ -58,7 +58,7 @@ rounded-requires c =
     subst⁻¹ (λ (s : Share). Fit s at.load) (share_known (goal.at.rounded-requires c).After-formula_share) fits
 
 pub returns : goal.returns
-unfolding said_answer reduced_of
+unfolding said reduced_of
 returns c =
     let t = (goal.at.returns c).Else-load-eq0 in
     rw (class_known t, load_known t, c.rounded.ensures, share_known (goal.at.returns c).After-formula_share)
