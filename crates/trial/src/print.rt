@@ -29,7 +29,11 @@ pub fn unread<W: Write>(out: &mut W) -> io::Result<()> {
 }
 
 // Prints what a call gave under its name, or the number of its refusal.
-pub fn print_answer<W: Write>(out: &mut W, name: &str, answer: Result<u64, Refusal>) -> io::Result<()> {
+pub fn print_answer<W: Write>(
+    out: &mut W,
+    name: &str,
+    answer: Result<u64, Refusal>,
+) -> io::Result<()> {
     match answer {
         Ok(n) => writeln!(out, "{name}={n}"),
         Err(refusal) => {
