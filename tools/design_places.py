@@ -4,8 +4,8 @@
     design_places.py POINT [COMMIT]     POINT is 1 to 8: a line `file:line: item: what it is` for each, and their count
     design_places.py all [COMMIT]       the counts of all points alone; both of that commit's tree where one is named
 
-It goes by patterns over the text of crates/*/src, so some hits are no places: those of NO_PLACE, which says why. A later
-hit that is looked at and is no place of its point is added there.
+It goes by patterns over the text of crates/*/src, so some hits are no places: those of NO_PLACE, which says why. A hit
+that comes later, is looked at and is no place of its point is added there.
 """
 
 import sys
@@ -159,8 +159,8 @@ def point1():
         given = item.result()
         kinds = [f"{name}: {kind}" for name, kind in item.parameters() if (name, kind) in KINDS]
         numbered = any((name, kind) == ("number", "u64") for name, kind in item.parameters())
-        none = r"return (?:0|16|at|from);|=> 0,|\{ 0 \}|\n {4}(?:0|16)\n\}"
-        if re.fullmatch(NUMBER, given) and re.search(none, item.body):
+        none = r"return (?:0|0\.0|16|at|from);|=> 0,|\{ 0 \}|\n {4}(?:0|16)\n\}"
+        if re.fullmatch(NUMBER + "|f64", given) and re.search(none, item.body):
             found.append((item, f"function that gives {given}, a number for none among them"))
         elif given == "bool" and any(kind.startswith("&mut") for _, kind in item.parameters()):
             found.append((item, "function that gives a bool, and the value in a buffer"))
@@ -364,7 +364,7 @@ def listing(places):
 
 BUFFER = r"\[.*\]|Places|Table"
 TABLE = r"STARTS|: \[\[|= \d+ \* [a-z]|: \[\w+; \w+\] = \[$"
-LENGTH = re.compile(r"count|end|at|length|floors|kept|size|place|first")
+LENGTH = re.compile(r"count|end|at|from|start|length|lines|floors|kept|size|place|first")
 
 
 def point6():
@@ -375,7 +375,7 @@ def point6():
             held = [name for name, kind in fields(item) if re.search(BUFFER, kind)]
             numbers = [name for name, kind in fields(item) if re.fullmatch(NUMBER, kind.strip())]
             beside = [name for name in numbers if LENGTH.fullmatch(name)]
-            if beside and (held or re.search(r"\b(?:lines|places|bytes|buffer)\b", item.comment)):
+            if beside and (held or re.search(r"\b(?:lines|places|bytes|buffer|part)\b", item.comment)):
                 found.append((item, f"struct with {', '.join(beside)} beside {', '.join(held) or 'what is elsewhere'}"))
         flat = item.kind == "fn" and re.search(r"= \d+ \* [^;]*;.*\[at \+ 1\]", item.body, re.S)
         if flat:
