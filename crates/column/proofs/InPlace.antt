@@ -20,6 +20,10 @@ module _ {m : Member} {n : ℕ} {places : List ℕ} (reached : Reached (column_f
   pub reached_held : Held places n
   reached_held = (sound reached).held
 
+  -- a count has room for them
+  pub reached_few : n ≤ 256
+  reached_few = reached_held.few
+
   module _ {last : ℕ} (known : last ≡ last_floor (lines_of (column_from m n places))) (l : Line) where
     -- the number that was found is that of the entry
     entry : first_condition m n last l ≡ entry_number m (lines_of col) l

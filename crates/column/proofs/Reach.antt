@@ -246,3 +246,8 @@ entered_last c l e =
 pub entered_stays : (c : Column) (l : Line) → 1 ≤ (entered_of c l).number → (entered_of c l).column ≡ c
 unfolding entered_of
 entered_stays c l h = ap (λ (o : Outcome). o.column) (entered_refused c l (entry_number c.member (lines_of c) l) h refl)
+
+-- so a column that opening a member gave is a reached one
+pub given_reached : {c : Column} (m : Member) → record { number = 0; column = c } ≡ opened_of m → Reached c
+given_reached m e =
+    subst⁻¹ Reached (ap (λ (o : Outcome). o.column) e) (reached_opened m (sym (ap (λ (o : Outcome). o.number) e)))

@@ -1,2 +1,3 @@
 -- What the exported structs say.
+pub mod Changed
 pub mod Exported

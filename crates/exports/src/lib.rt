@@ -1,6 +1,7 @@
 // What programs in C and Rust call, with answers as structs of numbers.
 #![tactic(auto)]
 
+pub mod changes;
 pub mod checks;
 pub mod columns;
 pub mod combinations;
