@@ -17,8 +17,9 @@ from pathlib import Path
 TESTS = Path(__file__).resolve().parent
 sys.path.insert(0, str(TESTS))
 
-from believed.book import defines
-from believed.definitions import crates
+from believed.book import blocks_of, defines
+from believed.definitions import Names, crates
+from believed.items import Items, blanked
 
 # What stands for any name in a path or a command.
 STANDING_FOR = re.compile(
@@ -37,7 +38,8 @@ OF_OTHERS = set(
 # How a name is declared: in definitions and proofs, in Rattle and Rust, in C, in Python and in scripts; and a sheet's keys.
 DECLARED = {
     ".antt": r"(?m)^ *(?:(?:unfoldable|abbrev|pub|data|record|module) +)*([^\s(){}:]+)(?= [^=\n]*(?: : |where$)| : | :$)",
-    ".rt": r"\b(?:fn|struct|enum|const|type|mod|let|let mut) +(\w+)|(?m:^ *(?:pub )?(\w+) *[,({:])|(\w+): [&\w\[]",
+    ".rt": r"\b(?:fn|struct|enum|trait|const|type|mod|ghost|let|let mut) +(\w+)|(?m:^ *(?:pub )?(\w+) *(?:[,({:]|= \d))|"
+    r"(\w+): [&\w\[]",
     ".rs": r"\b(?:fn|struct|enum|const|type|mod|macro_rules!) +(\w+)|(?m:^ *(?:pub )?(\w+) *[,({:])",
     ".h": r"\b(\w+)\b",
     ".c": r"\b(\w+)\(",
@@ -134,15 +136,31 @@ def missing_in(root, code, names):
 
 
 def is_item(root, path):
-    """Whether a path such as `member::limits::is_between` or `conditions::first_condition` is an item of its module."""
+    """Whether a path such as `member::limits::is_between`, `check::check` or `Column::open` is of its module or type."""
     first, *modules, name = path.split("::")
     source = root / "crates" / first / "src"
+    if (modules or [first])[-1][0].isupper():
+        return is_of_type(root, first if source.exists() else "*", (modules or [first])[-1], name)
     files = [source.joinpath(*modules).with_suffix(".rt")] if modules else [source / "lib.rt", source / "main.rt"]
     if not source.exists():
         below = "/".join([first, *modules])
         files = [*(root / "crates").glob(f"*/src/{below}.rt"), root / "bindings/bungero.rs"]
+    return any(name in items_of(file) for file in files if file.exists())
+
+
+def items_of(file):
+    """The names of what a file in Rattle or Rust declares, without what stands inside of something else."""
+    text = blanked(file.read_text(encoding="utf-8"))
+    if file.suffix == ".rt":
+        return {each.name for each in Items(text, Names()).found if each.kind not in ("impl", "use")}
+    return set(re.findall(r"\b(?:fn|struct|enum|const|type|mod)\s+(\w+)\b", text))
+
+
+def is_of_type(root, crate, of, name):
+    """Whether a name is a method, a constant, a case or a field of a type of a crate, or of one of any crate or the bindings."""
+    files = [*(root / "crates").glob(f"{crate}/src/**/*.rt"), *([root / "bindings/bungero.rs"] if crate == "*" else [])]
     texts = [file.read_text(encoding="utf-8") for file in files if file.exists()]
-    return any(re.search(rf"\b(?:fn|struct|enum|const|type|mod)\s+{re.escape(name)}\b", text) for text in texts)
+    return any(defines(block, name, ".rt") for text in texts for block in blocks_of(text, of))
 
 
 def wrong_pair(root, named, place):

@@ -1,11 +1,13 @@
 """What must be believed: works out which definitions the contracts of reachable functions reach, and prints them.
 
     specs_table.py            prints the list, and writes it into docs/STATEMENTS.md
-    specs_table.py --check    changes nothing, and fails where something is wrong: a reachable function that says nothing
-                              or asks more than that a column is reached, a definition of another shelf that is reached,
-                              one at the top of specs/ that is not, one without a place in the paper that is not marked
-                              so, a point of the book that nothing says, a list that is not as the files are, more
-                              lines than a reviewer can take, or a line that this script does not understand
+    specs_table.py --check    changes nothing, and fails where something is wrong: a reachable function or method that says
+                              nothing, one that asks more than that a column is reached, or a type that asks more by a
+                              ghost field, a function without a row among the promises, a definition of another shelf
+                              that is reached, one at the top of specs/ that is not, one without a place in the paper
+                              that is not marked so, a point of the book that nothing says, a list that is not as the
+                              files are, more lines than a reviewer can take, or a line that this script does not
+                              understand
 """
 
 import sys
@@ -56,6 +58,7 @@ def look(root, check):
         print(listed)
     wrong = definitions.complaints(readers) + contracts.complaints(contracted, strange)
     wrong += closure.complaints(found, by, by_any) + book.complaints(root, before, found, by)
+    wrong += book.wrong_promises((root / book.PROMISES).read_text(encoding="utf-8"), contracted)
     wrong += wrong_list(before if check else after, after, book.lines_of(found, by))
     for each in wrong:
         print(each)

@@ -20,7 +20,7 @@ README = """# A repository
     rt lib low && ls out/liblow.a && crates/low/out/low && gcc crates/low/out/liblow.a -L crates/low/out -o target/low
 
 `low` is told by `told` and `ask_open`, joined by `◌⊕◌`; `low::open::ask_open(n)`, `open::ask_open` and `Answer` are in
-the code, and `tests/run` and [the promises](docs/PROMISES.md) are files; `rt ci NAME`, `rt all check` and
+the code, with `Answer::Gives`, `None`, `low::Answer::number(answer)`, `open::Lent::count` and what is `counted`; and `tests/run` and [the promises](docs/PROMISES.md) are files; `rt ci NAME`, `rt all check` and
 `crates/NAME/src/` stand for others, and `rt check --only FUNCTION` for a part.
 """
 AFTER = README.count("\n") + 2  # the number of a line behind it
@@ -34,10 +34,33 @@ PROMISES = """# Promises
 |---|---|---|
 | `told-law` | It holds. | `low/proofs/Told.antt` |
 """
+LIB = """// old_name is in a comment alone
+pub fn asked<R>(n: u64) {}
+pub enum Answer<T> {
+    Gives(T),
+    None = 2,
+}
+
+impl<T> Answer<T> {
+    // A number: {
+    pub fn number(self) -> u64
+        ensures { result ≡ told 1 }
+    {
+        1
+    }
+}
+"""
+OPEN = """pub fn ask_open(n: u64) {}
+
+pub struct Lent<'a> {
+    pub count: &'a u64,
+    pub ghost counted: { told count.now ≡ 1 },
+}
+"""
 FILES = {
     "crates.txt": "low staticlib:\n",
-    "crates/low/src/lib.rt": "// old_name is in a comment alone\npub fn asked<R>(n: u64) {}\npub enum Answer { Gives(u64) }\n",
-    "crates/low/src/open.rt": "pub fn ask_open(n: u64) {}\n",
+    "crates/low/src/lib.rt": LIB,
+    "crates/low/src/open.rt": OPEN,
     "crates/low/specs/Told.antt": "-- old-law is stated in a comment alone\nabbrev pub told : ℕ → ℕ\ntold n = n\n",
     "crates/low/specs/Joined.antt": "infix 80 ◌⊕◌\nabbrev pub ◌⊕◌ : ℕ → ℕ → ℕ\na ⊕ b = a + b\n",
     "crates/low/proofs/Told.antt": "pub told-law : told 0 ≡ 0\ntold-law = refl\n",
@@ -77,6 +100,11 @@ class Documents(unittest.TestCase):
             ("`told-lie n`", "no `told-lie`"),
             ("`low::ask_open`", "no `low::ask_open`"),
             ("`shut::ask_open`", "no `shut::ask_open`"),
+            ("`low::number`", "no `low::number`"),
+            ("`low::Answer::asked`", "no `low::Answer::asked`"),
+            ("`Answer::Takes`", "no `Answer::Takes`"),
+            ("`low::Lent::number`", "no `low::Lent::number`"),
+            ("`counting`", "no `counting`"),
             ("`low/specs/Asked.antt`", "no `low/specs/Asked.antt`"),
             ("`Asked.antt`", "no `Asked.antt`"),
             ("`Built.antt`", "no `Built.antt`"),

@@ -113,6 +113,159 @@ fn main() {
     put(1);
 }
 """
+PROMISES = """# Promises
+
+| function | promise |
+|---|---|
+| `low::asked(n)` | What is told. |
+| `low::shared::handed_on(n)` | What is handed on. |
+| `low::open::ask_open(n)` | What is told openly. |
+"""
+# A module with the language's other forms: methods, generics, ghost fields, traits, closures.
+KINDS = """// A private module, whose types are handed on.
+ghost use Rattle.low.specs.Kinds.{opened_of, number_of};
+
+/// Which kind it is; a text in quotes is no code: {
+#[derive(Clone, Copy, PartialEq, Eq)]
+pub enum Kind<'a, T: Copy> {
+    First = 1,
+    Named { name: &'a str, of: T },
+}
+
+// What a module and a lifetime lend.
+#[derive(Clone, Copy)]
+pub struct Seen<'a, F: Fn(u64) -> u64, const N: usize> {
+    pub held: &'a [u64; N],
+    pub with: Pair<F, u64>,
+    pub ghost opens: { (opened_of held.now).number ≡ 0 },
+}
+
+// Nobody else can write one.
+#[derive(Drop)]
+pub struct Sealed {
+    items: Vec<u64>,
+    ghost small: { low_enough items.items },
+}
+
+// A pair.
+pub struct Pair<A, B>(pub A, B);
+
+// A type that is seen only as the result of a function.
+pub struct Found {
+    pub n: u64,
+}
+
+struct Unseen;
+
+impl<T: Copy> Kind<'_, T> {
+    ghost use Rattle.low.specs.Kinds.{low_enough};
+
+    // A constant
+    pub const MOST: u64 = 1;
+
+    // The number of a kind.
+    #[tactic(auto, unfolding(crate::specs::Kinds::number_of))]
+    pub const fn number(&self) -> Result<u64, Kind<'_, T>>
+        ensures { result ≡ number_of self.now }
+        ensures low { low_enough result }
+    {
+        let is_open = '{';
+        Ok(b'}' as u64)
+    }
+
+    fn hidden(self) -> u64 {
+        1
+    }
+}
+
+impl<'a, F: Fn(u64) -> u64, const N: usize> Seen<'a, F, N> {
+    ghost use Rattle.low.specs.inner.Asks.{asks};
+
+    // What a closure finds first.
+    pub fn first<G: FnMut(u64) -> bool>(&self, mut test: G) -> Option<[u64; 2]>
+    where
+        G: Drop,
+        requires { G.IsAlwaysCallable test }
+        ensures { result ≡ number_of self.now }
+    {
+        let twice = |x: u64| -> u64
+            requires { asks x }
+            ensures is { result ≡ x }
+        { x };
+        None
+    }
+}
+
+impl Found {
+    pub fn number(self) -> u64
+        ensures { result ≡ number_of self }
+    {
+        self.n
+    }
+}
+
+impl Unseen {
+    pub fn number(self) -> u64 {
+        1
+    }
+}
+
+impl<T: Copy> From<Kind<'_, T>> for u64 {
+    ghost from_gives = { number_of };
+
+    fn from(kind: Kind<'_, T>) -> u64 {
+        kind.number()
+    }
+}
+
+// What can be counted.
+pub trait Counted {
+    ghost count: { Self → ℕ };
+
+    fn count(&self) -> u64
+        ensures { result ≡ count self.now };
+}
+
+impl Counted for Found {
+    ghost count = { number_of };
+
+    fn count(&self) -> u64 {
+        self.n
+    }
+}
+
+// What is found.
+pub fn find(n: u64) -> Found
+    ensures { result.n ≡ number_of n }
+{
+    Found { n }
+}
+
+#[cfg(test)]
+mod tests {
+    #[test]
+    fn halves() {}
+}
+"""
+KINDS_SPECS = """-- Kinds.
+use Rattle.std.specs.Prelude.{ℕ}
+
+-- No part of the paper: opened
+abbrev pub opened_of : ℕ → ℕ
+opened_of n = n
+
+-- No part of the paper: a number
+pub number_of : {A : Type 0} → A → ℕ
+number_of a = 1
+
+-- No part of the paper: low
+abbrev pub low_enough : ℕ → Type 0
+low_enough n = n ≤ 1
+"""
+KIND_ROWS = "".join(
+    f"| `{name}(n)` | A promise. |\n"
+    for name in ("low::Kind::number", "Seen::first", "low::Found::number", "low::Counted::count", "low::kinds::find")
+)
 ROWS = {title: "| a point | `told` (`low/specs/Told.antt`) |" for title in book.ORDER}
 SORTS = "| sorts | `odd`, `Sort` (`low/specs/Told.antt`); `asked` (`low/src/lib.rt`) |"
 ROWS["Wrong turns"] = f"{SORTS}\n| left out | none: another paper |"
@@ -140,6 +293,14 @@ FILES = {
     "crates/program/src/main.rt": PROGRAM,
     "tests/trial": "",
     book.BOOK: book_text(),
+    book.PROMISES: PROMISES,
+}
+BROUGHT = "mod kinds;\npub use kinds::{Counted, Kind, Pair, Seen, Sealed, find};\n"
+FORMS = {
+    "crates/low/src/lib.rt": LOW.replace("mod inside;\n", f"{BROUGHT}mod inside;\n"),
+    "crates/low/src/kinds.rt": KINDS,
+    "crates/low/specs/Kinds.antt": KINDS_SPECS,
+    book.PROMISES: PROMISES + KIND_ROWS,
 }
 
 
@@ -286,7 +447,8 @@ class Faults(Made):
         for line in (*brought, *facts, "pub use inside::*;", "pub use inside::helper as h;"):
             self.said(["not understood"], code, LOW.replace("mod inside;\n", f"mod inside;\n{line}\n"))
         for function in ("pub const fn one() {}", "pub fn one<F: Fn(u64)>(f: F) {}"):
-            self.said(["not understood"], code, f"{LOW}\n{function}\n")
+            wrong = ["low::one can be reached, and says nothing of what it gives", "no row of low::one"]
+            self.said(wrong, code, f"{LOW}\n{function}\n")
         whole = "Rattle.low.specs.inner.Asks.asks"
         self.said(["not understood"], code, LOW.replace("≡ told n.now }", f"≡ {whole} (told n.now) }}"))
         self.said(["not understood"], told, TOLD.replace("openly n = n", f"openly n = n\n    + {whole} n"))
@@ -332,6 +494,127 @@ class Faults(Made):
         exchanged = (book.ORDER[1], book.ORDER[0], *book.ORDER[2:])
         self.said(["its sections are not the papers'"], book.BOOK, book_text(order=exchanged))
         self.said(["no point under Figures"], book.BOOK, book_text({"Figures to check against": ""}))
+
+
+class Forms(Made):
+    """Methods, ghost fields, generics, lifetimes, traits and closures."""
+
+    def complained(self, old, new, file="crates/low/src/kinds.rt"):
+        """The status and what the check says where one text of a file is another; the list was written anew."""
+        self.assertEqual(FORMS[file].count(old), 1, old)
+        root = self.repository({**FORMS, file: FORMS[file].replace(old, new)})
+        self.look(root, False)
+        status, printed = self.look(root, True)
+        return status, printed[:-1]
+
+    def test_read(self):
+        """Nothing is said of what is right, and all that another crate can reach is found, with each ghost fact."""
+        root = self.repository(FORMS)
+        self.look(root, False)
+        status, printed = self.look(root, True)
+        self.assertEqual((status, len(printed)), (0, 1), printed)
+        self.assertIn("reached by the contracts of 11 functions and 5 ghost facts of types;", printed[0])
+        said, _ = contracts.all_contracts(root)
+        reached = "Kind::number Seen::first Found::number u64::from Counted::count Found::count kinds::find".split()
+        facts = "Seen.opens Sealed.small u64.from_gives Counted.count Found.count".split()
+        here = {f"low::{each}" for each in reached + facts}
+        others = {"low::asked", "low::shared::handed_on", "low::open::ask_open"}
+        self.assertEqual({each.function for each in said if each.reachable}, here | others)
+
+    def test_kept_names(self):
+        """What a block brings in is not brought in for the blocks behind it."""
+        root = self.repository(FORMS)
+        names = {each.function: each.names for each in contracts.all_contracts(root)[0]}
+        self.assertIn("low_enough", names["low::Kind::number"].single)
+        self.assertNotIn("low_enough", names["low::Seen::first"].single)
+        self.assertIn("number_of", names["low::Seen::first"].single)
+
+    def test_faults(self):
+        """Each fault in a form is said in one line."""
+        promise = "\n        ensures { result ≡ number_of self }\n    {\n        self.n"
+        for old, new, wrong in (
+            (promise, "\n    {\n        self.n", "low::Found::number can be reached, and says nothing"),
+            ("G.IsAlwaysCallable test", "G.pre test 1", "low::Seen::first can be reached, and asks more"),
+            ("requires { G.", "requires { low_enough self.now }\n        requires { G.", "low::Seen::first can be reached"),
+            (".number ≡ 0 }", ".number ≤ 0 }", "low::Seen.opens can be reached, and asks more"),
+            ("    items: Vec", "    pub items: Vec", "low::Sealed.small can be reached, and asks more"),
+            ("    ghost from_gives = { number_of };\n", "", "low::u64::from can be reached, and says nothing"),
+            ("\n        ensures { result ≡ count self.now }", "", "low::Counted::count can be reached, and says nothing"),
+            ("ghost count = {", "ghost can_count = {", "low::Found.can_count can be reached, and asks more"),
+        ):
+            status, printed = self.complained(old, new)
+            self.assertEqual((status, len(printed)), (1, 1), (old, printed))
+            self.assertIn(wrong, printed[0])
+
+    def test_shelves(self):
+        """A method, a ghost fact or an impl's member that cites a definition of another shelf; a closure asks privately."""
+        brought = "ghost use Rattle.low.specs.inner.Asks.{asks};\nghost use Rattle.low.specs.Kinds.{opened_of"
+        text = KINDS.replace("ghost use Rattle.low.specs.Kinds.{opened_of", brought)
+        for old, new, who in (
+            ("{ low_enough items.items }", "{ asks items.items }", "low::Sealed.small"),
+            ("ensures low { low_enough result }", "ensures low { low_enough (asks result) }", "low::Kind::number"),
+            ("ghost from_gives = { number_of };", "ghost from_gives = { λ k. number_of (asks k) };", "low::u64.from_gives"),
+        ):
+            root = self.repository({**FORMS, "crates/low/src/kinds.rt": text.replace(old, new)})
+            self.look(root, False)
+            status, printed = self.look(root, True)
+            self.assertEqual((status, len(printed)), (1, 3), printed)
+            self.assertIn(f"`asks` is reached by {who}, but stands in specs/inner", printed[0])
+        moved = KINDS.replace("inner.Asks", "theorems.Asks")
+        other = {"crates/low/specs/theorems/Asks.antt": ASKS, "crates/low/src/kinds.rt": moved}
+        root = self.repository({**FORMS, **other})
+        self.look(root, False)
+        status, printed = self.look(root, True)
+        self.assertEqual((status, len(printed)), (1, 2), printed)
+        self.assertIn("`asks` is asked by private functions, by low::Seen::first, but stands in specs/theorems", printed[0])
+
+    def test_promises(self):
+        """A method or a function without a row among the promises, and a row of none; a method may go without its crate."""
+        place = book.PROMISES
+        for name in ("low::Kind::number", "Seen::first", "low::kinds::find", "low::asked"):
+            full = name if name.startswith("low::") else f"low::{name}"
+            status, printed = self.complained(f"`{name}(", "`(", place)
+            self.assertEqual((status, printed), (1, [f"{place}: no row of {full}"]))
+        status, printed = self.complained("`Seen::first(", "`low::kinds::Seen::first(", place)
+        wrong = [f"{place}: no row of low::Seen::first", f"{place}: low::kinds::Seen::first is no function in reach"]
+        self.assertEqual((status, printed), (1, wrong))
+
+    def test_points(self):
+        """A point that is said by a method, a case, a field or a fact of a type, and one by what the type has not."""
+        for name in ("Kind::number", "Kind::First", "Kind::MOST", "Seen::held", "Seen::opens", "Counted::count"):
+            root = self.repository({**FORMS, book.BOOK: book_text({"The work": f"| a | `{name}` (`low/src/kinds.rt`) |"})})
+            self.assertEqual(self.look(root, False)[0], 0, name)
+        for name in ("Kind::first", "Seen::number", "Sealed::number", "Kind::n"):
+            root = self.repository({**FORMS, book.BOOK: book_text({"The work": f"| a | `{name}` (`low/src/kinds.rt`) |"})})
+            status, printed = self.look(root, False)
+            self.assertEqual((status, printed[-2].endswith(f"no `{name}` in low/src/kinds.rt")), (1, True), printed)
+
+    def test_not_understood(self):
+        """A form that is not understood is said, and not passed over."""
+        for line in (
+            "mod inner { fn a() {} }",
+            "macro_rules! made { () => {} }",
+            "fn outer() { fn inner() {} }",
+            "fn outer() { impl Found {} }",
+            "pub enum Which { First { n: u64, ghost low: { asks n } } }",
+            "struct Hidden { n: u64, pub(crate) ghost low: { asks n }, }",
+            "struct Hidden { n: u64, ghost low: asks n, }",
+            "fn given(n: u64) ghost (m : ℕ) { n }",
+            "fn sized() -> Held<{ 1 }> { Held }",
+            'extern "C" { fn other(n: u64); }',
+            "ghost low: { asks n }",
+            "fn closing() { let f = |x: u64| requires asks x; }",
+            "impl Found { made!(); }",
+            "impl Found { ghost use Rattle.low.specs.inner.Asks; }",
+            "impl Found { ghost is_low; }",
+            "impl Found { struct Inner; }",
+        ):
+            root = self.repository({**FORMS, "crates/low/src/kinds.rt": f"{KINDS}\n{line}\n"})
+            self.look(root, False)
+            status, printed = self.look(root, True)
+            self.assertEqual((status, len(printed) > 1), (1, True), line)
+            for each in printed[:-1]:
+                self.assertIn("not understood, so what it reaches is not seen", each, line)
 
 
 if __name__ == "__main__":

@@ -6,8 +6,11 @@ from dataclasses import dataclass
 
 from .closure import REQUESTS, SECTIONS, place_of, words
 from .definitions import WHOLE_PATH
+from .items import blanked, closing
 
 BOOK = "docs/STATEMENTS.md"
+PROMISES = "docs/PROMISES.md"
+PROMISED = re.compile(r"(?m)^\| `([\w:]+)\(")  # how a function's row begins there
 BEGIN, END = "<!-- believed -->\n", "<!-- end of believed -->\n"
 HEAD = "| point | said by |"
 OURS = "Here: "  # how a point begins that is not the paper's
@@ -48,7 +51,18 @@ def defines(text, name, suffix):
     quoted = re.escape(name)
     if suffix == ".antt":
         return bool(re.search(rf"(?m)^ *{KEYWORDS}{quoted}(?: [^=\n]*)?(?: : | :$|where$)", text))
-    return bool(re.search(rf"\b(?:fn|struct|enum|const|type|mod) +{quoted}\b|(?m:^ *(?:pub )?{quoted} *[,({{:])", text))
+    if "::" in name:  # a method, a constant or a case of a type
+        of, _, inner = name.rpartition("::")
+        return any(defines(block, inner, suffix) for block in blocks_of(text, of))
+    declared = rf"\b(?:fn|struct|enum|trait|const|type|mod|ghost) +{quoted}\b"
+    return bool(re.search(rf"{declared}|(?m:^ *(?:pub )?{quoted} *(?:[,({{:]|= \d))", text))
+
+
+def blocks_of(text, of):
+    """What stands in the blocks of a type: what it declares, and its methods."""
+    text = blanked(text)
+    heads = rf"(?m)^(?:pub )?(?:(?:struct|enum|trait) +{of}\b|impl\b[^{{;]*\b{of}\b(?!::))[^{{;]*(?=\{{)"
+    return [text[head.end() : closing(text, head.end(), "{}")] for head in re.finditer(heads, text)]
 
 
 def wrong_cell(root, point):
@@ -83,6 +97,17 @@ def complaints(root, text, definitions, by):
         if (each.module, each.name) in by and place_of(each) and (each.path, each.name) not in named:
             said.append(f"{BOOK}: no point names `{each.name}` ({each.path}), whose place is {place_of(each)}")
     return said + [f"{BOOK}: no row of a table: {line}" for line in strange_lines(text)]
+
+
+def wrong_promises(text, contracts):
+    """The functions in reach that have no row among the promises, and the rows of no such function; a method can stand there
+    without its crate. What a trait's method gives is said by the trait."""
+    said = []
+    rows, functions = set(PROMISED.findall(text)), {each.function for each in contracts if each.reachable and each.is_function}
+    by_row = {row: each for each in functions for row in (each, each.partition("::")[2])}
+    for each in sorted(functions - {by_row.get(row) for row in rows} - {each.function for each in contracts if each.trait}):
+        said.append(f"{PROMISES}: no row of {each}")
+    return said + [f"{PROMISES}: {row} is no function in reach" for row in sorted(rows) if row not in by_row]
 
 
 def strange_lines(text):
@@ -121,11 +146,17 @@ def believed(definitions, contracts, by):
     kit = of_the_kit(definitions, contracts, by)
     kit = "; ".join(f"{module}: {' '.join(sorted(kit[module]))}" for module in sorted(kit))
     said = sum(each.lines for each in contracts)
-    return (
-        f"{count} definitions in {len(files)} files, {lines} lines, which the contracts of {len(contracts)} functions "
-        f"reach ({said} lines of `requires` and `ensures`):\n\n"
-        "| file | lines | definitions |\n|---|---|---|\n" + "".join(rows) + f"\n{wrapped(f'Of the kit they use {kit}.')}\n"
-    )
+    head = f"{count} definitions in {len(files)} files, {lines} lines, which {reaching(contracts)} reach ({said} lines of "
+    head += "`requires`, `ensures` and `ghost`):"
+    table = "| file | lines | definitions |\n|---|---|---|\n" + "".join(rows)
+    return f"{wrapped(head)}\n\n{table}\n{wrapped(f'Of the kit they use {kit}.')}\n"
+
+
+def reaching(contracts):
+    """How many contracts there are, and how many facts that types keep of their values."""
+    functions = sum(each.is_function for each in contracts)
+    facts = len(contracts) - functions
+    return f"the contracts of {functions} functions" + (f" and {facts} ghost facts of types" if facts else "")
 
 
 def wrapped(text):
@@ -146,6 +177,6 @@ def summary(definitions, contracts, by, text):
     ours = sum(each.text.startswith(OURS) for each in found)
     by_these = f"{len(found) - ours - none - tried} said by definitions, theorems or code, {tried} tried, {none} by none"
     return (
-        f"what must be believed: {lines} lines, {len(by)} definitions reached by the contracts of {len(contracts)} "
-        f"functions; {len(found) - ours} points of the papers, {by_these}; {ours} of our own"
+        f"what must be believed: {lines} lines, {len(by)} definitions reached by {reaching(contracts)}; "
+        f"{len(found) - ours} points of the papers, {by_these}; {ours} of our own"
     )

@@ -1,28 +1,40 @@
-"""The contracts of a repository: what `requires` and `ensures` say of functions, those that another crate can reach first."""
+"""The contracts of a repository: what `requires` and `ensures` say of functions and methods, and ghost fields of types."""
 
 import re
 from dataclasses import dataclass
 
 from .definitions import WHOLE_PATH, Names, crates
+from .items import Item, Items, blanked
 
-FUNCTION = re.compile(r"(?m)^ *(pub )?(?:extern \"C\" )?fn (\w+)(?:<[^(]*>)?\(")
-ANY_FUNCTION = re.compile(r"\bfn\s+\w+")
-CLAUSE = re.compile(r"(?:[^{;]|; [\w:]+\])*?\b(requires|ensures)\b[^{]*")
-REACHED = re.compile(r"\{\s*Reached (?:[\w.]+|\([^×⊎→↔∗]*\))\s*\}")  # all that a reachable function may ask
-MODULE = re.compile(r"(?m)^(pub )?mod (\w+);")
-USED = re.compile(r"(?m)^pub use (\w+)::(?:\{([\w, ]*)\}|(\w+));")
+# All that a function in reach of a caller may ask: that a column is reached, and that it may call the closure it is given.
+REACHED = re.compile(r"\{\s*Reached (?:[\w.]+|\([^×⊎→↔∗]*\))\s*\}")
+CALLABLE = re.compile(r"\{\s*[A-Z]\w*\.IsAlwaysCallable [\w.]+\s*\}")
+# How a type whose values a caller can write says the same of the column that they make (column/specs/Lent.antt).
+SEEN = re.compile(r"\{\s*(?:∥ Reached [\w. ]+ ∥₁|\((?:opened_of|entered_again) [\w. ]+\)\.\w+ ≡ [\w.]+)\s*\}")
+ASKING = "can_"  # how the ghost members of traits begin that say when a method may be called
+USED = re.compile(r"pub use (\w+)::(?:\{([\w\s,]*)\}|(\w+))")
+TYPES = ("struct", "enum", "trait", "type")
 TRIALS = "trial"  # how the names of programs begin that only try the others
 
 
 @dataclass
 class Contract:
-    """A function `crate::module::name`, the clauses of its contract, and the names that its file brings in."""
+    """A function `crate::module::name`, a method `crate::Type::name` or a ghost field `crate::Type.name`, the clauses of its
+    contract, and the names that its file brings in."""
 
     function: str
     clauses: list
     names: Names
     reachable: bool  # by another crate
     counts: bool  # among the contracts that say what must be believed
+    trait: str = ""  # the trait that an impl block is of, where it is a method there
+    silent: bool = False  # whether something else says what it gives: a ghost member of its block, or its trait
+    asks: bool = False  # whether a ghost field is asked of callers, since they can write a value of its type
+
+    @property
+    def is_function(self):
+        """Whether it is the contract of a function."""
+        return not self.clauses or any(kind != "ghost" for kind, _ in self.clauses)
 
     @property
     def text(self):
@@ -35,100 +47,135 @@ class Contract:
         return sum(said.count("\n") + 1 for _, said in self.clauses)
 
 
-def without_comments(text):
-    """A source without its comments and its byte strings."""
-    text = re.sub(r'b"(\\.|[^"\\])*"', '""', text)
-    return re.sub(r"//[^\n]*", "", text)
+@dataclass
+class Placed:
+    """An item of a crate, the module in which it stands, and whether another crate can name it."""
 
-
-def closing(text, at, pair):
-    """The index just past the bracket that closes the one at an index."""
-    depth = 0
-    for index in range(at, len(text)):
-        depth += {pair[0]: 1, pair[1]: -1}.get(text[index], 0)
-        if depth == 0:
-            return index + 1
-    return len(text)
-
-
-def clauses(text, at):
-    """The clauses of a contract, which begins behind the parameters: `requires` or `ensures`, and what it says."""
-    found = []
-    while True:
-        clause, brace = CLAUSE.match(text, at), text.find("{", at)
-        if not clause or clause.end() > brace:
-            return found
-        at = closing(text, brace, "{}")
-        found.append((clause[1], text[brace:at]))
-
-
-class Source:
-    """A source file: its names, its functions, and what of it is not understood."""
-
-    def __init__(self, file):
-        self.text, self.names = without_comments(file.read_text(encoding="utf-8")), Names()
-        ghosts = [line for line in self.text.splitlines() if re.match(r"\s*(?:pub )?ghost\b", line)]
-        self.strange = [f"{file.name}: {line.strip()}" for line in ghosts if not self.names.take(line)]
-        handed = re.findall(r"\bpub\s+use\b[^;]*;", self.text)
-        self.strange += [f"{file.name}: {each}" for each in handed if not USED.fullmatch(each)]
-        by_path = [line for line in self.text.splitlines() if WHOLE_PATH in line and line not in ghosts]
-        self.strange += [f"{file.name}: {line.strip()}" for line in by_path]
-        if len(FUNCTION.findall(self.text)) != len(ANY_FUNCTION.findall(self.text)):
-            self.strange.append(f"{file.name}: a function whose first line is not `fn NAME(`, `pub fn NAME(` or the like")
-
-    def contracts(self, where, is_reached):
-        """The contracts of its functions; whether one can be reached is told from its name and whether it is `pub`."""
-        found = []
-        for function in FUNCTION.finditer(self.text):
-            said = clauses(self.text, closing(self.text, function.end() - 1, "()"))
-            reached = is_reached(function[2], bool(function[1]))
-            found.append(Contract(f"{where}::{function[2]}", said, self.names, reached, reached))
-        return found
+    item: Item
+    where: str
+    nameable: bool
 
 
 def of_module(file, where, reached, again):
-    """The contracts below a file, and what is not understood; of a private module those are reached that are handed on."""
-    source = Source(file)
-    found = source.contracts(where, lambda name, public: public and (reached or name in again))
-    handed, strange = {}, source.strange
-    for name, several, single in USED.findall(source.text):
-        handed.setdefault(name, set()).update(word.strip() for word in (several or single).split(","))
-    for public, name in MODULE.findall(source.text):
-        passed_on = handed.get(name, set()) if reached else set()
-        below = of_module(file.parent / f"{name}.rt", f"{where}::{name}", reached and bool(public), passed_on)
-        found, strange = found + below[0], strange + below[1]
+    """The items below a file, and what is not understood; of a private module those can be named that are handed on."""
+    text = blanked(file.read_text(encoding="utf-8"))
+    read = Items(text, Names())
+    strange = [f"{file.name}: {each}" for each in read.strange]
+    handed = {}
+    for used in (each for each in read.found if each.kind == "use" and each.public):
+        if found := USED.fullmatch(used.text):
+            handed.setdefault(found[1], set()).update(word.strip() for word in (found[2] or found[3]).split(","))
+        else:
+            strange.append(f"{file.name}: {used.text}")
+    by_path = [line.strip() for line in text.splitlines() if WHOLE_PATH in line and not re.match(r"\s*ghost use", line)]
+    strange += [f"{file.name}: {line}" for line in by_path]
+    found = [Placed(each, where, each.public and (reached or each.name in again)) for each in read.found]
+    for each in (each for each in read.found if each.kind == "mod"):
+        passed_on = handed.get(each.name, set()) if reached else set()
+        below = file.parent / f"{each.name}.rt"
+        inside = of_module(below, f"{where}::{each.name}", reached and each.public, passed_on)
+        found, strange = found + inside[0], strange + inside[1]
     return found, strange
+
+
+def seen_types(placed):
+    """The names of the types and traits that another crate can name, or that what it can name speaks of."""
+    types = {each.item.name for each in placed if each.item.kind in TYPES and each.item.public}
+    seen, more = set(), {each.item.name for each in placed if each.item.kind in TYPES and each.nameable}
+    while more:
+        seen |= more
+        texts = [each.item.text for each in placed if each.nameable or (each.item.kind in TYPES and each.item.name in seen)]
+        blocks = [each.item for each in placed if each.item.kind == "impl" and each.item.name in seen]
+        texts += [block.text for block in blocks]
+        texts += [method.text for block in blocks for method in block.members if method.public or block.trait]
+        said = {word for text in texts for word in re.findall(r"\w+", text)}
+        more = (types & said) - seen
+    return seen
+
+
+def of_function(item, where, reachable, trait="", silent=False):
+    """The contract of a function, and that of the closures in it, which is private."""
+    name = f"{where}::{item.name}"
+    found = [Contract(name, item.clauses, item.names, reachable, reachable, trait, silent)]
+    return found + ([Contract(name, item.of_closures, item.names, False, False)] if item.of_closures else [])
+
+
+def of_block(placed, types, seen, traits):
+    """The contracts of the methods and the ghost members of a trait or an impl block."""
+    item, found = placed.item, []
+    own = types & set(re.findall(r"\w+", item.text))
+    reached = item.name in seen if item.kind == "trait" or not item.trait else own <= seen
+    where = f"{placed.where.partition('::')[0]}::{item.name}"
+    told = any(each.kind == "ghost" for each in item.members)
+    for each in item.members:
+        reachable = reached and (each.public or item.kind == "trait" or bool(item.trait))
+        if each.kind == "fn":
+            silent = bool(item.trait) and (told or (item.trait, each.name) in traits)
+            found += of_function(each, where, reachable, item.trait, silent)
+        elif each.kind == "ghost":
+            found.append(Contract(f"{where}.{each.name}", each.clauses, each.names, reachable, reachable))
+    return found
+
+
+def all_of(placed):
+    """The contracts of the items of a crate."""
+    types = {each.item.name for each in placed if each.item.kind in TYPES}
+    seen, found = seen_types(placed), []
+    traits = {
+        (each.item.name, method.name)
+        for each in placed
+        for method in each.item.members
+        if each.item.kind == "trait" and method.says("ensures")
+    }
+    for each in placed:
+        item = each.item
+        if item.kind == "fn":
+            found += of_function(item, each.where, each.nameable)
+        elif item.kind in ("impl", "trait"):
+            found += of_block(each, types, seen, traits)
+        for fact in item.members if item.kind == "struct" else []:
+            name, reachable = f"{each.where.partition('::')[0]}::{item.name}.{fact.name}", item.name in seen
+            found.append(Contract(name, fact.clauses, fact.names, reachable, reachable, asks=not item.sealed))
+    return found
 
 
 def of_crate(root, crate):
     """The contracts of a crate, and what is not understood. In the main file of a program that is no trial all count."""
     source = root / "crates" / crate / "src"
     if (source / "lib.rt").exists():
-        return of_module(source / "lib.rt", crate, True, set())
-    found, strange = of_module(source / "main.rt", crate, False, set())
-    for each in found:
-        each.counts = not crate.startswith(TRIALS) and each.function.count("::") == 1 and bool(each.clauses)
-    return found, strange
+        placed, strange = of_module(source / "lib.rt", crate, True, set())
+        return all_of(placed), strange
+    placed, strange = of_module(source / "main.rt", crate, False, set())
+    in_main = all_of([each for each in placed if each.where == crate])
+    for each in in_main:
+        each.counts = not crate.startswith(TRIALS) and bool(each.clauses)
+    return in_main + all_of([each for each in placed if each.where != crate]), strange
 
 
 def all_contracts(root):
-    """The contracts of all functions, and the lines that are not understood."""
+    """The contracts of all functions and types, and the lines that are not understood."""
     of_crates = [(crate, *of_crate(root, crate)) for crate in crates(root)]
     strange = [f"{crate}/{each}" for crate, _, here in of_crates for each in here]
     return [each for _, found, _ in of_crates for each in found], strange
 
 
+def asked_too_much(contract):
+    """The clauses of a contract in reach that ask more of a caller than that a column is reached."""
+    asked = [text for kind, text in contract.clauses if kind == "requires"]
+    more = [text for text in asked if not REACHED.fullmatch(text) and not CALLABLE.fullmatch(text)]
+    ghosts = [text for kind, text in contract.clauses if kind == "ghost"]
+    if contract.asks:
+        more += [text for text in ghosts if not SEEN.fullmatch(text)]
+    return more + (ghosts if contract.function.rpartition(".")[2].startswith(ASKING) else [])
+
+
 def complaints(contracts, strange):
-    """What is wrong, a line each: a reachable function that says nothing or asks more than `Reached`; what is not read."""
+    """What is wrong, a line each: what can be reached and says nothing or asks more than `Reached`; what is not read."""
     said = [f"{each}: not understood, so what it reaches is not seen" for each in strange]
-    for each in contracts:
+    for each in (each for each in contracts if each.reachable):
         kinds = [kind for kind, _ in each.clauses]
-        if each.reachable and "ensures" not in kinds:
+        if each.is_function and "ensures" not in kinds and not each.silent:
             said.append(f"{each.function} can be reached, and says nothing of what it gives")
-        asked = [text for kind, text in each.clauses if kind == "requires"]
-        said += [
-            f"{each.function} can be reached, and asks more of its caller than a column that is reached"
-            for text in asked
-            if each.reachable and not REACHED.fullmatch(text)
-        ]
+        for _ in asked_too_much(each):
+            said.append(f"{each.function} can be reached, and asks more of its caller than a column that is reached")
     return said

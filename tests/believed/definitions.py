@@ -1,6 +1,7 @@
 """The definitions of a repository: the files of crates/NAME/specs, each cut into its definitions."""
 
 import re
+from collections import ChainMap
 from dataclasses import dataclass, field
 from pathlib import Path
 
@@ -41,10 +42,16 @@ def is_read(path):
 
 
 class Names:
-    """The names that the `use` lines of a file bring in: single ones, and modules by another name."""
+    """The names that the `use` lines of a file or of a block in it bring in: single ones, and modules by another name."""
 
     def __init__(self):
-        self.single, self.modules = {}, {}
+        self.single, self.modules = ChainMap(), ChainMap()
+
+    def within(self):
+        """The names of a block inside: these, and what it brings in itself."""
+        names = Names()
+        names.single, names.modules = self.single.new_child(), self.modules.new_child()
+        return names
 
     def take(self, line):
         """Takes a `use` line; whether it is one that is understood."""
