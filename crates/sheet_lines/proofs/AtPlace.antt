@@ -1,25 +1,28 @@
 -- One step of each definition that goes over bytes, at a place of a line; how large a number is and where it ends; and what begins with a key.
 -- Assumes nothing.
-use mathlib.Core.Path.{◌≡◌, refl, ◌∙◌, ap, ap₂, subst, subst⁻¹}
+use mathlib.Core.Path.{◌≡◌, refl, sym, ◌∙◌, ap, ap₂, subst}
 use mathlib.Core.Bool.{Bool, true, false, cond, ◌&&◌, false≢true}
 use mathlib.Core.List.{List, [], ◌∷◌, ◌++◌}
-use mathlib.Core.Option.{Option, some, none}
 use Prim.Native.Nat.{ℕ, zero, suc, ◌+◌, ◌-◌, ◌*◌, ◌^◌, ◌<◌, ◌≤◌}
 use native.Mathlib.Omega.{arith}
 use native.Mathlib.Numerals.{add-one}
 use native.Mathlib.Nat.{pow-suc, pow-le-pow_right}
 use lib.ListN.{length, take, drop, get_or, drop_of_length-le, length-append, length-drop}
 use lib.Seq.{drop-cons}
-use lib.Dec.{leb, ltb, eqb, lit≤}
-use borrow.Author.Tests.{lt-ltb, le-ltb, eq-eqb, ne_eqb, eqb-true, eqb-false, ltb-true, leb-true}
-use Rattle.sheet_lines.specs.declared.number.Number.{Number}
-use Rattle.sheet_lines.specs.declared.number.Number.TheVariants.{Is, Not}
-use Rattle.sheet_lines.specs.Number.{may_grow, number_ended, number_from, begins, field_at}
-use Rattle.sheet_lines.specs.Form.{with_number, fields_from, form_by}
-use Rattle.sheet_lines.specs.theorems.Says.{key_at}
-use Rattle.sheet_lines.specs.declared.Form.{Form}
-use Rattle.sheet_lines.specs.declared.Form.TheVariants.{Malformed}
-use Rattle.sheet_lines.specs.inner.InLine.{Small, parts_of, rising, told}
+use lib.Pointwise.{pointwise}
+use lib.Dec.{ltb, eqb, lit≤}
+use borrow.Author.Tests.{lt-ltb, le-ltb, eq-eqb, ne_eqb, eqb-true, eqb-false, ltb-true}
+use Rattle.std.specs.Prelude.{Option, Some, None, slice_get}
+use Rattle.std.specs.List.{starts_with}
+use Rattle.std.proofs.Common.{inl, inr}
+use Rattle.std.specs.Char.{IsNotAsciiDigit}
+use Rattle.sheet_lines.specs.declared.number.Read.{Read}
+use Rattle.sheet_lines.specs.Number.{may_grow, number_ended, number_from, begins}
+use Rattle.sheet_lines.specs.inner.InLine.{Small}
+
+-- a number that was read, and the place after it
+abbrev pub read : ℕ → ℕ → Read
+read v p = record { value = v; next = p }
 
 -- a choice that came out as x, by cases
 pub chosen : {A : Type 0} {G : Type 0} (t : Bool) (a b x : A) → cond t a b ≡ x → (t ≡ true → a ≡ x → G) → (t ≡ false → b ≡ x → G) → G
@@ -41,19 +44,16 @@ module _ (l : List ℕ) (count value next : ℕ) where
   unfolding number_from
   number_end h = rw (drop_of_length-le l h)
 
-  -- at a byte below the digits, and at one above them
-  pub number_low : next < length l → get_or l next 0 < 48 → number_from count value next (drop next l) ≡ number_ended count value next
+  -- at a byte that is no digit
+  pub number_other : next < length l → IsNotAsciiDigit (get_or l next 0) → number_from count value next (drop next l) ≡ number_ended count value next
   unfolding number_from
-  number_low h b = rw (opened l next h, lt-ltb _ _ b)
-
-  pub number_high : next < length l → 48 ≤ get_or l next 0 → 57 < get_or l next 0 → number_from count value next (drop next l) ≡ number_ended count value next
-  unfolding number_from
-  number_high h a b = rw (opened l next h, le-ltb _ _ a, lt-ltb _ _ b)
+  number_other h (inl b) = rw (opened l next h, lt-ltb _ _ b)
+  number_other h (inr b) = let a : 48 ≤ get_or l next 0 = omega arith in rw (opened l next h, le-ltb _ _ a, lt-ltb _ _ b)
 
   -- at a digit
   pub number_digit : next < length l → 48 ≤ get_or l next 0 → get_or l next 0 ≤ 57 → (t : Bool) → may_grow count value ≡ t
       → number_from count value next (drop next l)
-      ≡ cond t (number_from (count + 1) (value * 10 + (get_or l next 0 - 48)) (next + 1) (drop (next + 1) l)) Not
+      ≡ cond t (number_from (count + 1) (value * 10 + (get_or l next 0 - 48)) (next + 1) (drop (next + 1) l)) None
   unfolding number_from
   number_digit h a b t e = rw (opened l next h, le-ltb _ _ a, le-ltb _ _ b, e)
 
@@ -79,7 +79,7 @@ pub ended_small : (count value next most : ℕ) → value < 10 ^ count → count
 unfolding number_ended Small
 ended_small count value next most h k e = go (eqb count 0)
   where
-    go : (t : Bool) → Small most (cond t Not (Is value next))
+    go : (t : Bool) → Small most (cond t None (Some (read value next)))
     go true = tt
     go false = (below h k, e)
 
@@ -105,6 +105,27 @@ module _ (key line : List ℕ) (i at : ℕ) where
   unfolding begins
   begins_same h k n = rw (opened key i h, opened line at k, eq-eqb _ _ n)
 
+-- begins is what the library tests
+pub begins_is : (s key : List ℕ) → starts_with eqb s key ≡ begins key s
+unfolding begins
+begins_is s [] = refl
+begins_is [] (k ∷ ks) = refl
+begins_is (b ∷ s) (k ∷ ks) = go (eqb b k) refl (begins_is s ks)
+  where
+    go : (t : Bool) → eqb b k ≡ t → starts_with eqb s ks ≡ begins ks s → eqb k b && starts_with eqb s ks ≡ cond t (begins ks s) false
+    go true e h = rw (eqb-true b k e, eq-eqb k k refl) h
+    go false e h = rw (ne_eqb k b (λ q. eqb-false b k e (sym q)))
+
+pub strip_is : (s key : List ℕ) → pointwise eqb (take (length key) s) key ≡ begins key s
+unfolding begins
+strip_is s [] = refl
+strip_is [] (k ∷ ks) = refl
+strip_is (b ∷ s) (k ∷ ks) = go (eqb b k) (strip_is s ks)
+  where
+    go : (t : Bool) → pointwise eqb (take (length ks) s) ks ≡ begins ks s → t && pointwise eqb (take (length ks) s) ks ≡ cond t (begins ks s) false
+    go true h = h
+    go false h = refl
+
 -- a text that begins with a key is the key, and then the text from its length on
 pub begins_from : (key s : List ℕ) → begins key s ≡ true → s ≡ key ++ drop (length key) s
 unfolding begins
@@ -125,71 +146,17 @@ pub key_within : (key line : List ℕ) (at : ℕ) → at ≤ length line → beg
 key_within key line at h e = omega (arith, ap length (begins_from key (drop at line) e) ∙ length-append key _, length-drop at line)
 
 -- what is known of a number that was read
-pub small_is : {most value next : ℕ} {n : Number} → Small most n → n ≡ Is value next → (value < 10000000000000) × (next ≤ most)
+pub small_is : {most : ℕ} {o : Option Read} {r : Read} → Small most o → o ≡ Some r → (r.value < 10000000000000) × (r.next ≤ most)
 unfolding Small
 small_is {most} h e = subst (Small most) e h
 
-module _ (done : List ℕ) (keys : List (List ℕ)) (l : List ℕ) (at i : ℕ) (h : i < length keys) where
-  -- the number behind the next key is read
-  pub fields_next : (v p : ℕ) → field_at (key_at keys i) l at ≡ Is v p
-      → fields_from done (drop i keys) l at ≡ fields_from (done ++ (v ∷ [])) (drop (i + 1) keys) l p
-  unfolding fields_from with_number
-  fields_next v p e = rw (add-one, drop-cons keys i [], e)
+-- what is looked up at a place of a list: an item before its end, and none from there on
+pub get_none : {A : Type 0} (xs : List A) (i : ℕ) → None ≡ slice_get xs i → length xs ≤ i
+get_none [] i e = omega arith
+get_none (x ∷ xs) zero e = let z : ◌≡◌ {A = ℕ} 0 1 = cc in absurd (omega arith)
+get_none (x ∷ xs) (suc i) e = omega (arith, get_none xs i e)
 
-  -- or there is none
-  pub fields_none : field_at (key_at keys i) l at ≡ Not → fields_from done (drop i keys) l at ≡ none
-  unfolding fields_from with_number
-  fields_none e = rw (drop-cons keys i [], e)
-
--- after the last key the line has ended
-pub fields_end : (done : List ℕ) (keys : List (List ℕ)) (l : List ℕ) (at i : ℕ) → length keys ≤ i
-    → fields_from done (drop i keys) l at ≡ cond (eqb at (length l)) (some done) none
-unfolding fields_from
-fields_end done keys l at i h = rw (drop_of_length-le keys h)
-
--- the part at a place is what stands from its start to the next one
-pub record PartAt (text starts : List ℕ) (i next : ℕ) : Type 0 where
-  pub order : get_or starts i 0 ≤ get_or starts next 0
-  pub inside : get_or starts next 0 ≤ length text
-  pub is : take (get_or starts next 0 - get_or starts i 0) (drop (get_or starts i 0) text) ≡ key_at (parts_of text starts) i
-
--- both of two tests hold
-both : (s t : Bool) → s && t ≡ true → (s ≡ true) × (t ≡ true)
-both true t e = (refl, e)
-both false t e = absurd (false≢true e)
-
--- the first of starts that rise is not past the end
-rising_first : (most a : ℕ) (starts : List ℕ) → rising most (a ∷ starts) ≡ true → a ≤ most
-unfolding rising
-rising_first most a [] h = leb-true a most h
-rising_first most a (b ∷ starts) h =
-    let q = both (leb a b) _ h in
-    omega (arith, rising_first most b starts q.1, leb-true a b q.0)
-
-part_next : (text starts : List ℕ) (i : ℕ) → rising (length text) starts ≡ true → suc i < length starts → PartAt text starts i (suc i)
-unfolding rising parts_of
-part_next text [] i h n = absurd (omega arith)
-part_next text (a ∷ []) i h n = absurd (omega arith)
-part_next text (a ∷ (b ∷ starts)) zero h n =
-    let q = both (leb a b) _ h in
-    record { order = leb-true a b q.0; inside = rising_first (length text) b starts q.1; is = refl }
-part_next text (a ∷ (b ∷ starts)) (suc i) h n =
-    let p = part_next text (b ∷ starts) i (both (leb a b) _ h).1 (omega arith) in
-    record { order = p.order; inside = p.inside; is = p.is }
-
-pub part_at : (text starts : List ℕ) (i : ℕ) → rising (length text) starts ≡ true → i + 1 < length starts → PartAt text starts i (i + 1)
-part_at text starts i h n = subst⁻¹ (PartAt text starts i) (add-one i) (part_next text starts i h (omega arith))
-
--- so many parts
-pub parts_count : (text starts : List ℕ) (n : ℕ) → length starts ≡ suc n → length (parts_of text starts) ≡ n
-unfolding parts_of
-parts_count text [] n h = absurd (omega arith)
-parts_count text (a ∷ []) n h = omega arith
-parts_count text (a ∷ (b ∷ starts)) zero h = absurd (omega arith)
-parts_count text (a ∷ (b ∷ starts)) (suc n) h = ap suc (parts_count text (b ∷ starts) n (omega arith))
-
--- the form of a line by what was told of its numbers
-pub form_told : (b : Bool) (ns : List ℕ) {o : Option (List ℕ)} (form : List ℕ → Form) → told b ns ≡ o → form_by o form ≡ cond b (form ns) Malformed
-unfolding told form_by
-form_told true ns form e = rw (← e)
-form_told false ns form e = rw (← e)
+pub get_some : {A : Type 0} (xs : List A) (i : ℕ) (d x : A) → Some x ≡ slice_get xs i → (i < length xs) × (x ≡ get_or xs i d)
+get_some [] i d x e = let z : ◌≡◌ {A = ℕ} 0 1 = cc in absurd (omega arith)
+get_some (y ∷ ys) zero d x e = (omega arith, cc)
+get_some (y ∷ ys) (suc i) d x e = let r = get_some ys i d x e in (omega (arith, r.0), r.1)

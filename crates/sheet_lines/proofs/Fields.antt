@@ -3,7 +3,6 @@
 use mathlib.Core.Path.{◌≡◌, refl, sym, ◌∙◌, ap}
 use mathlib.Core.Bool.{Bool, true, false, cond, false≢true}
 use mathlib.Core.List.{List, [], ◌∷◌, ◌++◌, append_assoc, append-nil}
-use mathlib.Core.Option.{some, none}
 use Prim.Native.Nat.{ℕ, suc, ◌+◌, ◌≤◌, ◌<◌}
 use native.Mathlib.Omega.{arith}
 use lib.Dec.{eqb, ltb}
@@ -12,24 +11,24 @@ use lib.Seq.{drop-drop, drop-append_seam}
 use borrow.Author.Tests.{eq-eqb, eqb-true, ltb-true}
 use Rattle.text.specs.Text.{decimal}
 use Rattle.lists.specs.Lists.{All, none as nil, more}
-use Rattle.sheet_lines.specs.declared.number.Number.{Number}
-use Rattle.sheet_lines.specs.declared.number.Number.TheVariants.{Is, Not}
+use Rattle.std.specs.Prelude.{Option, Some, None}
+use Rattle.sheet_lines.specs.declared.number.Read.{Read}
 use Rattle.sheet_lines.specs.Number.{number_at, begins, field_at}
 use Rattle.sheet_lines.specs.Form.{with_number, fields_from}
 use Rattle.sheet_lines.specs.LineText.{fields_text}
-use Rattle.sheet_lines.proofs.AtPlace.{chosen, either, begins_from, begins_to}
+use Rattle.sheet_lines.proofs.AtPlace.{read, chosen, either, begins_from, begins_to}
 use Rattle.sheet_lines.proofs.NumberText.{NoDigit, stops_end, stops_low, number_from_lem, number_to}
 
 -- what holds of going on with a number, by cases
-pub with_number_lem : {A : Type 0} (P : A → Type 0) (other : A) (n : Number) (go : ℕ → ℕ → A) → P other → ((v p : ℕ) → n ≡ Is v p → P (go v p)) → P (with_number other n go)
+pub with_number_lem : {A : Type 0} (P : Option A → Type 0) (n : Option Read) (go : ℕ → ℕ → Option A) → P None → ((v p : ℕ) → n ≡ Some (read v p) → P (go v p)) → P (with_number n go)
 unfolding with_number
-with_number_lem P other (Is v p) go f k = k v p refl
-with_number_lem P other Not go f k = f
+with_number_lem P (Some r) go f k = k r.value r.next refl
+with_number_lem P None go f k = f
 
-field_from : (key l : List ℕ) (at v p : ℕ) → field_at key l at ≡ Is v p → drop at l ≡ key ++ (decimal v ++ drop p l)
+field_from : (key l : List ℕ) (at v p : ℕ) → field_at key l at ≡ Some (read v p) → drop at l ≡ key ++ (decimal v ++ drop p l)
 unfolding field_at
 field_from key l at v p e =
-    chosen (begins key (drop at l)) (number_at l (at + length key)) Not (Is v p) e
+    chosen (begins key (drop at l)) (number_at l (at + length key)) None (Some (read v p)) e
     (λ b n. begins_from key (drop at l) b ∙ ap (λ (x : List ℕ). key ++ x) (drop-drop (length key) at l ∙ number_from_lem l (at + length key) v p n))
     λ _ k. let z : ◌≡◌ {A = ℕ} 0 1 = cc in absurd (omega arith)
 
@@ -41,16 +40,16 @@ pub record ReadFrom (done : List ℕ) (keys : List (List ℕ)) (bytes ns : List 
   pub each : length numbers ≡ length keys
 
 -- numbers that are read were written
-pub fields_from_lem : (keys : List (List ℕ)) (done l : List ℕ) (at : ℕ) (ns : List ℕ) → fields_from done keys l at ≡ some ns → ReadFrom done keys (drop at l) ns
+pub fields_from_lem : (keys : List (List ℕ)) (done l : List ℕ) (at : ℕ) (ns : List ℕ) → fields_from done keys l at ≡ Some ns → ReadFrom done keys (drop at l) ns
 unfolding fields_from fields_text
 fields_from_lem [] done l at ns =
-    either (λ o. o ≡ some ns → ReadFrom done [] (drop at l) ns) (eqb at (length l)) (some done) none
+    either (λ o. o ≡ Some ns → ReadFrom done [] (drop at l) ns) (eqb at (length l)) (Some done) None
     (λ h k.
     let same : done ≡ ns = cc in
     record { numbers = []; all = sym same ∙ sym (append-nil done); text = drop_of_length-le l {i = at} (omega (arith, eqb-true at (length l) h)); each = refl })
     λ _ k. let z : ◌≡◌ {A = ℕ} 0 1 = cc in absurd (omega arith)
 fields_from_lem (key ∷ keys) done l at ns =
-    with_number_lem (λ o. o ≡ some ns → ReadFrom done (key ∷ keys) (drop at l) ns) none (field_at key l at) _
+    with_number_lem (λ o. o ≡ Some ns → ReadFrom done (key ∷ keys) (drop at l) ns) (field_at key l at) _
     (λ k. let z : ◌≡◌ {A = ℕ} 0 1 = cc in absurd (omega arith)) λ v p n e.
     let r = fields_from_lem keys (done ++ (v ∷ [])) l p ns e in
     record {
@@ -93,7 +92,7 @@ module _ (key l : List ℕ) (at n : ℕ) (s : List ℕ) (e : drop at l ≡ key +
   abbrev place : ℕ
   place = at + length key + length (decimal n)
 
-  field_to : Short n → NoDigit s → field_at key l at ≡ Is n place
+  field_to : Short n → NoDigit s → field_at key l at ≡ Some (read n place)
   unfolding field_at
   field_to h t =
       let b : begins key (drop at l) ≡ true = rw e (begins_to key (decimal n ++ s)) in
@@ -108,7 +107,7 @@ module _ (key l : List ℕ) (at n : ℕ) (s : List ℕ) (e : drop at l ≡ key +
 
 -- numbers that are written are read
 pub fields_to : (keys : List (List ℕ)) (ns done l : List ℕ) (at : ℕ) → low_after keys ≡ true → All Short ns → length ns ≡ length keys → at ≤ length l
-    → drop at l ≡ fields_text keys ns → fields_from done keys l at ≡ some (done ++ ns)
+    → drop at l ≡ fields_text keys ns → fields_from done keys l at ≡ Some (done ++ ns)
 unfolding fields_from fields_text with_number low_after
 fields_to [] [] done l at h nil q i e = rw (eq-eqb at (length l) (omega (arith, length-drop at l, ap length e)), append-nil done)
 fields_to [] (n ∷ ns) done l at h a q i e = absurd (omega arith)
@@ -117,4 +116,4 @@ fields_to (key ∷ keys) (n ∷ ns) done l at h (more s a) q i e =
     let f = field_to key l at n (fields_text keys ns) e s (stops keys ns h) in
     rw f
     (fields_to keys ns (done ++ (n ∷ [])) l (place key l at n (fields_text keys ns) e) (low_after_lem keys h) a (omega arith) (inside_to key l at n (fields_text keys ns) e i) (left_to key l at n (fields_text keys ns) e)
-    ∙ ap some (append_assoc done (n ∷ []) ns))
+    ∙ ap Some (append_assoc done (n ∷ []) ns))

@@ -11,9 +11,10 @@ use lib.Seq.{drop-drop, drop-append_seam}
 use borrow.Author.Tests.{lt-ltb, le-ltb, ne_eqb, eqb-false, ltb-true, ltb-false}
 use Rattle.text.specs.Text.{decimal}
 use Rattle.text.proofs.Decimal.{decimal_small, decimal_more, length_some, length_most, tenth}
-use Rattle.sheet_lines.specs.declared.number.Number.TheVariants.{Is, Not}
+use Rattle.std.specs.Prelude.{Option, Some, None, option_map, unwrap_or}
+use Rattle.sheet_lines.specs.declared.number.Read.{Read}
 use Rattle.sheet_lines.specs.Number.{may_grow, number_ended, number_from, number_at}
-use Rattle.sheet_lines.proofs.AtPlace.{chosen, grow_only}
+use Rattle.sheet_lines.proofs.AtPlace.{read, chosen, grow_only}
 
 -- ---- a number that is written is read
 
@@ -68,13 +69,13 @@ pub stops_low : (b : ℕ) (s : List ℕ) → b < 48 → NoDigit (b ∷ s)
 unfolding number_from
 stops_low b s h = record { stops = λ c v p. rw (lt-ltb b 48 h) }
 
-ended_some : (c v p : ℕ) → 0 < c → number_ended c v p ≡ Is v p
+ended_some : (c v p : ℕ) → 0 < c → number_ended c v p ≡ Some (read v p)
 unfolding number_ended
 ended_some c v p h = rw (ne_eqb c 0 (λ z. omega arith))
 
 -- a number that is written is read
 pub number_to : (l : List ℕ) (at n : ℕ) (s : List ℕ) → n < 10000000000000 → NoDigit s → drop at l ≡ decimal n ++ s
-    → number_at l at ≡ Is n (at + length (decimal n))
+    → number_at l at ≡ Some (read n (at + length (decimal n)))
 unfolding number_at
 number_to l at n s h t e =
     let c : ℕ = length (decimal n) in
@@ -104,28 +105,28 @@ record From (given : List ℕ) (end v q : ℕ) : Type 0 where
   text : given ≡ decimal v ++ after
   place : q + length after ≡ end
 
-from_ended : (c v p v' q : ℕ) (pre s : List ℕ) → Part c v pre → number_ended c v p ≡ Is v' q → From (pre ++ s) (p + length s) v' q
+from_ended : (c v p v' q : ℕ) (pre s : List ℕ) → Part c v pre → number_ended c v p ≡ Some (read v' q) → From (pre ++ s) (p + length s) v' q
 unfolding number_ended
-from_ended c v p v' q pre s r e = chosen (eqb c 0) Not (Is v p) (Is v' q) e (λ h k. let z : ◌≡◌ {A = ℕ} 0 1 = cc in absurd (omega arith)) (go r)
+from_ended c v p v' q pre s r e = chosen (eqb c 0) None (Some (read v p)) (Some (read v' q)) e (λ h k. let z : ◌≡◌ {A = ℕ} 0 1 = cc in absurd (omega arith)) (go r)
   where
-    go : Part c v pre → eqb c 0 ≡ false → Is v p ≡ Is v' q → From (pre ++ s) (p + length s) v' q
+    go : Part c v pre → eqb c 0 ≡ false → Some (read v p) ≡ Some (read v' q) → From (pre ++ s) (p + length s) v' q
     go (none z y x) h k = absurd (eqb-false c 0 h z)
     go (some z x) h k =
-        let a : v ≡ v' = cc in
-        let b : p ≡ q = cc in
+        let a : v ≡ v' = ap (λ (o : Option Read). unwrap_or (option_map (λ r. r.value) o) 0) k in
+        let b : p ≡ q = ap (λ (o : Option Read). unwrap_or (option_map (λ r. r.next) o) 0) k in
         record { after = s; text = ap (λ (l : List ℕ). l ++ s) (x ∙ ap decimal a); place = omega arith }
 
-from_bytes : (s : List ℕ) (c v p v' q : ℕ) (pre : List ℕ) → Part c v pre → number_from c v p s ≡ Is v' q → From (pre ++ s) (p + length s) v' q
+from_bytes : (s : List ℕ) (c v p v' q : ℕ) (pre : List ℕ) → Part c v pre → number_from c v p s ≡ Some (read v' q) → From (pre ++ s) (p + length s) v' q
 unfolding number_from
 from_bytes [] c v p v' q pre r e = from_ended c v p v' q pre [] r e
 from_bytes (b ∷ s) c v p v' q pre r e =
     let w : ℕ = v * 10 + (b - 48) in
-    let on : Part (c + 1) w (pre ++ (b ∷ [])) → number_from (c + 1) w (p + 1) s ≡ Is v' q → From (pre ++ (b ∷ []) ++ s) (p + 1 + length s) v' q
+    let on : Part (c + 1) w (pre ++ (b ∷ [])) → number_from (c + 1) w (p + 1) s ≡ Some (read v' q) → From (pre ++ (b ∷ []) ++ s) (p + 1 + length s) v' q
     = from_bytes s (c + 1) w (p + 1) v' q (pre ++ (b ∷ [])) in
     let same : p + 1 + length s ≡ p + suc (length s) = omega arith in
-    chosen (ltb b 48) (number_ended c v p) _ (Is v' q) e (λ _ k. from_ended c v p v' q pre (b ∷ s) r k) λ lo e.
-    chosen (ltb 57 b) (number_ended c v p) _ (Is v' q) e (λ _ k. from_ended c v p v' q pre (b ∷ s) r k) λ hi e.
-    chosen (may_grow c v) (number_from (c + 1) w (p + 1) s) Not (Is v' q) e
+    chosen (ltb b 48) (number_ended c v p) _ (Some (read v' q)) e (λ _ k. from_ended c v p v' q pre (b ∷ s) r k) λ lo e.
+    chosen (ltb 57 b) (number_ended c v p) _ (Some (read v' q)) e (λ _ k. from_ended c v p v' q pre (b ∷ s) r k) λ hi e.
+    chosen (may_grow c v) (number_from (c + 1) w (p + 1) s) None (Some (read v' q)) e
     (λ m k. rw (append_assoc, same) at (on (some (omega arith) (grown c v b pre r m (ltb-false b 48 lo) (ltb-false 57 b hi))) k))
     λ _ k. let z : ◌≡◌ {A = ℕ} 0 1 = cc in absurd (omega arith)
 
@@ -138,6 +139,6 @@ after_place l at v p f =
     rw w f.text
 
 -- a number that is read was written, before the place that reading came to
-pub number_from_lem : (l : List ℕ) (at v p : ℕ) → number_at l at ≡ Is v p → drop at l ≡ decimal v ++ drop p l
+pub number_from_lem : (l : List ℕ) (at v p : ℕ) → number_at l at ≡ Some (read v p) → drop at l ≡ decimal v ++ drop p l
 unfolding number_at
 number_from_lem l at v p e = after_place l at v p (from_bytes (drop at l) 0 0 at v p [] (none refl refl refl) e)

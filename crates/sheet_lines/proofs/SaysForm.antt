@@ -3,7 +3,6 @@
 use mathlib.Core.Path.{◌≡◌, refl, sym, ◌∙◌, ap, subst, subst⁻¹}
 use mathlib.Core.Bool.{Bool, true, false, cond, ◌&&◌, false≢true}
 use mathlib.Core.List.{List, [], ◌∷◌, ◌++◌, append_assoc, append-nil}
-use mathlib.Core.Option.{Option, some, none}
 use Prim.Native.Nat.{ℕ, zero, suc, ◌+◌, ◌<◌}
 use native.Mathlib.Omega.{arith}
 use lib.Dec.{eqb, ltb}
@@ -17,6 +16,7 @@ use Rattle.text.specs.Text.{minus, decimal, signed_decimal}
 use Rattle.text.proofs.Decimal.{length_some, decimal_all}
 use Rattle.text.proofs.Sign.{signed_pos, signed_neg}
 use Rattle.newtons.specs.Effect.{signed}
+use Rattle.std.specs.Prelude.{Option, Some, None}
 use Rattle.sheet_lines.specs.declared.Due.{Due}
 use Rattle.sheet_lines.specs.declared.Due.TheVariants as D
 use Rattle.sheet_lines.specs.declared.Form.{Form}
@@ -32,9 +32,9 @@ use Rattle.sheet_lines.proofs.Fields.{with_number_lem, fields_from_lem, fields_t
 -- ---- a line that has a form says so
 
 -- a line says this, or has not the form
-pub data Read (due : Due) (l : List ℕ) (f : Form) : Type 0 where
-  says : Says due l f → Read due l f
-  malformed : f ≡ F.Malformed → Read due l f
+pub data Read (due : Due) (l : List ℕ) (o : Option Form) : Type 0 where
+  says : (f : Form) → o ≡ Some f → Says due l f → Read due l o
+  malformed : o ≡ None → Read due l o
 
 -- a line that is read by some keys has the text of numbers, one to a key
 by_keys : {due : Due} (keys : List (List ℕ)) (l : List ℕ) (form : List ℕ → Form)
@@ -43,8 +43,8 @@ unfolding form_by
 by_keys {due} keys l form k = go (fields_from [] keys l 0) refl
   where
     go : (o : Option (List ℕ)) → fields_from [] keys l 0 ≡ o → Read due l (form_by o form)
-    go none e = malformed refl
-    go (some ns) e = let r = fields_from_lem keys [] l 0 ns e in says (k ns (ap length r.all ∙ r.each) (r.text ∙ ap (fields_text keys) (sym r.all)))
+    go None e = malformed refl
+    go (Some ns) e = let r = fields_from_lem keys [] l 0 ns e in says (form ns) refl (k ns (ap length r.all ∙ r.each) (r.text ∙ ap (fields_text keys) (sym r.all)))
 
 member_read : (l : List ℕ) → Read D.Member l (member_form l)
 unfolding member_form member_text member_keys
@@ -73,13 +73,13 @@ module _ (k : ℕ) (h : k < effect_count) (l : List ℕ) where
   unfolding effect_end effect_text
   end_read at negative b =
       let R = Read (D.Effect k) l in
-      with_number_lem R F.Malformed (number_at l at) _ (malformed refl) λ v p n.
+      with_number_lem R (number_at l at) _ (malformed refl) λ v p n.
       either R (eqb p (length l)) _ _
       (λ q.
       either R (negative && eqb v 0) _ _ (λ _. malformed refl) λ m.
       let d : drop p l ≡ [] = drop_of_length-le l {i = p} (omega (arith, eqb-true p (length l) q)) in
       let t : drop at l ≡ decimal v = number_from_lem l at v p n ∙ ap (λ (x : List ℕ). decimal v ++ x) d ∙ append-nil (decimal v) in
-      says (effect k (signed negative v) h refl refl (b ∙ ap (λ (x : List ℕ). key ++ x) (ap (mark negative) t ∙ marked negative v m))))
+      says (F.Effect k (signed negative v)) refl (effect k (signed negative v) h refl refl (b ∙ ap (λ (x : List ℕ). key ++ x) (ap (mark negative) t ∙ marked negative v m))))
       λ _. malformed refl
 
   effect_read : Read (D.Effect k) l (effect_form k key l)
@@ -123,15 +123,14 @@ unfoldable pub ShortForm : Form → Type 0
 ShortForm (F.Member code) = Short code
 ShortForm (F.Floor x) = All Short (line_numbers x)
 ShortForm (F.Effect k z) = Short (nat_abs z)
-ShortForm F.Malformed = ⊥
 
 keys_to : (keys : List (List ℕ)) (ns : List ℕ) (form : List ℕ → Form) → low_after keys ≡ true → All Short ns → length ns ≡ length keys
-    → form_by (fields_from [] keys (fields_text keys ns) 0) form ≡ form ns
+    → form_by (fields_from [] keys (fields_text keys ns) 0) form ≡ Some (form ns)
 unfolding form_by
 keys_to keys ns form h a q = rw (fields_to keys ns [] (fields_text keys ns) 0 h a q (omega arith) refl)
 
 end_to : (k : ℕ) (l : List ℕ) (at : ℕ) (negative : Bool) (n : ℕ) → Short n → drop at l ≡ decimal n → negative && eqb n 0 ≡ false
-    → effect_end k l at negative ≡ F.Effect k (signed negative n)
+    → effect_end k l at negative ≡ Some (F.Effect k (signed negative n))
 unfolding effect_end with_number
 end_to k l at negative n h d s =
     let q : at + length (decimal n) ≡ length l = omega (arith, length_some n, sym (length-drop at l) ∙ ap length d) in
@@ -145,7 +144,7 @@ no_minus n = rw append-nil at (decimal_all Plain (λ d s. rw (ne_eqb (48 + d) 45
     Plain : List ℕ → Type 0
     Plain a = (s : List ℕ) → begins (minus ∷ []) (a ++ s) ≡ false
 
-effect_to : (k : ℕ) (key : List ℕ) (z : ℤ) → Short (nat_abs z) → effect_form k key (effect_text key z) ≡ F.Effect k z
+effect_to : (k : ℕ) (key : List ℕ) (z : ℤ) → Short (nat_abs z) → effect_form k key (effect_text key z) ≡ Some (F.Effect k z)
 unfolding effect_form effect_text signed
 effect_to k key (pos n) h =
     let d : drop (length key) (key ++ decimal n) ≡ decimal n = drop-append_seam key (decimal n) in
@@ -164,7 +163,7 @@ no_floor zero z = refl
 no_floor (suc k) z = rw (ne_eqb (suc k) 0 (λ e. omega arith))
 
 -- what a line says, it is read as
-pub says_form : {due : Due} {l : List ℕ} {f : Form} → Says due l f → ShortForm f → form_of due l ≡ f
+pub says_form : {due : Due} {l : List ℕ} {f : Form} → Says due l f → ShortForm f → form_of due l ≡ Some f
 unfolding form_of ShortForm member_form member_text member_keys later_form is_floor floor_form floor_text floor_keys line_numbers line_from fields_text begins low low_after
 says_form (member code d f t) h = rw (d, f, t) (keys_to member_keys (code ∷ []) _ refl (more (subst ShortForm f h) nil) refl)
 says_form (floor x d f (as_written t)) h = rw (d, f, t) (keys_to floor_keys (line_numbers x) _ refl (subst ShortForm f h) refl)

@@ -1,89 +1,62 @@
-// Numbers and keys in a line of a sheet.
-ghost use Rattle.std.specs.Prelude.{◌≡◌, ◌≤◌, length, drop};
-ghost use Rattle.sheet_lines.specs.Number.{may_grow, number_ended, number_at, begins, field_at};
+// Numbers and keys at the start of a text, which is what is left of a line of a sheet.
+ghost use Rattle.std.specs.Prelude.{◌≡◌, length};
+ghost use Rattle.sheet_lines.specs.Number.{may_grow, number_ended, number_at, field_at};
 ghost use Rattle.sheet_lines.specs.inner.InLine.{Small};
 
-// The number that stands at a place of a line, and the place after it.
+// The number that was read, and the place after it.
 #[derive(Clone, Copy)]
-pub enum Number {
-    Is { value: u64, next: usize },
-    Not,
+pub struct Read {
+    pub value: u64,
+    pub next: usize,
 }
 
 // Whether a digit may follow so many digits of this value.
-fn may_grow(count: u64, value: u64) -> bool
+#[tactic(auto, unfolding(crate::specs::Number::may_grow))]
+fn may_grow(count: usize, value: u64) -> bool
     ensures { result ≡ may_grow count value }
 {
-    if count == 0 {
-        return true;
-    }
-    if value == 0 {
-        return false;
-    }
-    count < 13
+    count == 0 || (value != 0 && count < 13)
 }
 
 // The number of so many digits, which end before a place.
-fn number_ended(count: u64, value: u64, next: usize) -> Number
+#[tactic(auto, unfolding(crate::specs::Number::number_ended))]
+fn number_ended(count: usize, value: u64, next: usize) -> Option<Read>
     ensures { result ≡ number_ended count value next }
 {
     if count == 0 {
-        return Number::Not;
+        return None;
     }
-    Number::Is { value, next }
+    Some(Read { value, next })
 }
 
-// The number at a place of a line.
-pub fn number_at(line: &[u8], at: usize) -> Number
-    requires { at ≤ length line.now }
-    ensures { (result ≡ number_at line.now at) × Small (length line.now) result }
+// The number at the start of a text.
+pub fn number_at(text: &[u8]) -> Option<Read>
+    ensures value { result ≡ number_at text.now 0 }
+    ensures small { Small (length text.now) result }
 {
-    let mut next = at;
-    let mut count: u64 = 0;
-    let mut value: u64 = 0;
-    while next < line.len() {
-        let byte = line[next];
-        if byte < b'0' {
-            return number_ended(count, value, next);
-        }
-        if byte > b'9' {
-            return number_ended(count, value, next);
+    let mut count = 0;
+    let mut value = 0;
+    for byte in text {
+        if !byte.is_ascii_digit() {
+            return number_ended(count, value, count);
         }
         if !may_grow(count, value) {
-            return Number::Not;
+            return None;
         }
-        value = value * 10 + (byte - b'0') as u64;
+        value = value * 10 + (*byte - b'0') as u64;
         count += 1;
-        next += 1;
     }
-    number_ended(count, value, next)
+    number_ended(count, value, count)
 }
 
-// Whether a key stands at a place of a line.
-pub fn begins_at(line: &[u8], at: usize, key: &[u8]) -> bool
-    requires { at ≤ length line.now }
-    ensures { result ≡ begins key.now (drop at line.now) }
+// The number behind a key that stands at the start of a text.
+pub fn field_at(text: &[u8], key: &[u8]) -> Option<Read>
+    ensures value { result ≡ field_at key.now text.now 0 }
+    ensures small { Small (length text.now) result }
 {
-    let mut i = 0;
-    while i < key.len() {
-        if at + i >= line.len() {
-            return false;
-        }
-        if line[at + i] != key[i] {
-            return false;
-        }
-        i += 1;
-    }
-    true
-}
-
-// The number after a key that stands at a place of a line.
-pub fn field_at(line: &[u8], at: usize, key: &[u8]) -> Number
-    requires { at ≤ length line.now }
-    ensures { (result ≡ field_at key.now line.now at) × Small (length line.now) result }
-{
-    if begins_at(line, at, key) {
-        return number_at(line, at + key.len());
-    }
-    Number::Not
+    let number = number_at(text.strip_prefix(key)?)?;
+    Some(Read {
+        value: number.value,
+        next: key.len() + number.next,
+    })
 }

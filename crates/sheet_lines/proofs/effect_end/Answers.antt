@@ -7,6 +7,7 @@ use mir.Syntax.{w64}
 use mir.Val.{SFits, to_z, of_z}
 use mir.ValLaws.{to_z_pos}
 use borrow.Author.Tests.{eq-eqb, ne_eqb}
+use Rattle.std.specs.Prelude.{Some}
 use Rattle.newtons.specs.Effect.{signed}
 use Rattle.newtons.proofs.Word.{size_neg, small_fits, kept}
 use Rattle.sheet_lines.specs.declared.Form.TheVariants.{Effect}
@@ -31,31 +32,32 @@ module _ (n : ℕ) (h : n < 10000000000000) where
   opposite-kept : to_z w64 (of_z w64 (pos 0 -ℤ to_z w64 n)) ≡ neg_ℤ (pos n)
   opposite-kept = ap (λ (z : ℤ). to_z w64 (of_z w64 z)) opposite ∙ kept {n = n} (omega (arith, size_neg n)) (omega arith)
 
-pub returns-in_default : goal.returns-in_default
+pub returns-in_err-value : goal.returns-in_err-value
 unfolding effect_end with_number
-returns-in_default c = rw (sym c.number_at.ensures.0 ∙ c.in_default.is)
+returns-in_err-value c = rw (c.from_residual.ensures, sym c.number_at.ensures.value ∙ c.in_err-value.was)
 
-pub returns-then-next-line : goal.returns-then-next-line
+pub returns-then-next-text : goal.returns-then-next-text
 unfolding effect_end with_number
-returns-then-next-line c = rw (sym c.number_at.ensures.0 ∙ c.in-Is.is, ne_eqb _ _ c.if-next-line.true)
+returns-then-next-text c = rw (sym c.number_at.ensures.value ∙ c.in_ok-value.was, ne_eqb _ _ c.if-next-text.true)
 
-pub overflow_cast-result : goal.overflow_cast-result
-overflow_cast-result c = fits _ (small_is c.number_at.ensures.1 c.in-Is.is).0
+pub overflow_cast-size : goal.overflow_cast-size
+overflow_cast-size c = fits _ (small_is c.number_at.ensures.small c.in_ok-value.was).0
 
 pub returns-then-not-negative : goal.returns-then-not-negative
 unfolding effect_end with_number signed
-returns-then-not-negative c = rw (sym c.number_at.ensures.0 ∙ c.in-Is.is, eq-eqb _ _ c.if-next-line.false, c.if-not-negative.true) (ap (Effect c.args.place) (as-pos _ (small_is c.number_at.ensures.1 c.in-Is.is).0))
+returns-then-not-negative c =
+    rw (sym c.number_at.ensures.value ∙ c.in_ok-value.was, eq-eqb _ _ c.if-next-text.false, c.if-not-negative.true)
+    (ap (λ (z : ℤ). Some (Effect c.args.place z)) (as-pos _ (small_is c.number_at.ensures.small c.in_ok-value.was).0))
 
 pub returns-then-value-eq0 : goal.returns-then-value-eq0
 unfolding effect_end with_number
-returns-then-value-eq0 c = rw (sym c.number_at.ensures.0 ∙ c.in-Is.is, eq-eqb _ _ c.if-next-line.false, eq-eqb _ _ c.if-value-eq0.true, c.if-not-negative.false)
-
-pub overflow_cast-result-2 : goal.overflow_cast-result-2
-overflow_cast-result-2 c = fits _ (small_is c.number_at.ensures.1 c.in-Is.is).0
+returns-then-value-eq0 c = rw (sym c.number_at.ensures.value ∙ c.in_ok-value.was, eq-eqb _ _ c.if-next-text.false, eq-eqb _ _ c.if-value-eq0.true, c.if-not-negative.false)
 
 pub overflow_sub-result : goal.overflow_sub-result
-overflow_sub-result c = opposite-fits _ (small_is c.number_at.ensures.1 c.in-Is.is).0
+overflow_sub-result c = opposite-fits _ (small_is c.number_at.ensures.small c.in_ok-value.was).0
 
 pub returns : goal.returns
 unfolding effect_end with_number signed
-returns c = rw (sym c.number_at.ensures.0 ∙ c.in-Is.is, eq-eqb _ _ c.if-next-line.false, ne_eqb _ _ c.if-value-eq0.false, c.if-not-negative.false) (ap (Effect c.args.place) (opposite-kept _ (small_is c.number_at.ensures.1 c.in-Is.is).0))
+returns c =
+    rw (sym c.number_at.ensures.value ∙ c.in_ok-value.was, eq-eqb _ _ c.if-next-text.false, ne_eqb _ _ c.if-value-eq0.false, c.if-not-negative.false)
+    (ap (λ (z : ℤ). Some (Effect c.args.place z)) (opposite-kept _ (small_is c.number_at.ensures.small c.in_ok-value.was).0))

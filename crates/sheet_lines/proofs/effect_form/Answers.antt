@@ -1,42 +1,44 @@
 -- `sheet_lines::effect_form` meets its contract: the key, a minus sign or none, and the number. Assumes nothing.
-use mathlib.Core.Path.{◌≡◌, sym, ◌∙◌}
-use mathlib.Core.Bool.{true}
-use Prim.Native.Nat.{◌≤◌}
-use native.Mathlib.Omega.{arith}
+use mathlib.Core.Path.{◌≡◌, sym, ◌∙◌, ap}
+use mathlib.Core.Bool.{true, false}
 use mathlib.Core.List.{[], ◌∷◌}
+use Prim.Native.Nat.{◌+◌, ◌≤◌}
+use native.Mathlib.Omega.{arith}
 use lib.ListN.{length, drop}
+use lib.Seq.{drop-drop}
 use Rattle.text.specs.Text.{minus}
 use Rattle.sheet_lines.specs.Number.{begins}
 use Rattle.sheet_lines.specs.Form.{effect_form}
-use Rattle.sheet_lines.proofs.AtPlace.{key_within}
+use Rattle.sheet_lines.proofs.AtPlace.{strip_is}
+use Rattle.sheet_lines.proofs.Moved.{end_rest}
 use Rattle.sheet_lines.proofs.effect_form.Goals as goal
-use Rattle.sheet_lines.proofs.effect_form.Goals.{Else-not-begins_at}
 
--- the key stands at the start of the line
-key_is : (c : Else-not-begins_at) → begins c.args.key.now (drop 0 c.args.line.now) ≡ true
-key_is c = sym c.begins_at.ensures ∙ c.if-not-begins_at.false
-
--- so it ends within the line
-within : (c : Else-not-begins_at) → length c.args.key.now ≤ length c.args.line.now
-within c = omega (arith, key_within c.args.key.now c.args.line.now 0 (omega arith) (key_is c))
-
-pub returns-then-not-begins_at : goal.returns-then-not-begins_at
+pub returns-in_err-number : goal.returns-in_err-number
 unfolding effect_form
-returns-then-not-begins_at c = rw (sym c.begins_at.ensures ∙ c.if-not-begins_at.true)
+returns-in_err-number c =
+    let no : begins c.args.key.now c.args.line.now ≡ false = sym (strip_is _ _) ∙ c.in_err-number.ensures.cases in
+    rw (c.from_residual.ensures, no)
 
-pub begins_at-requires-2 : goal.begins_at-requires-2
-begins_at-requires-2 c = within (goal.at.begins_at-requires-2 c).Else-not-begins_at
-
-pub effect_end-requires : goal.effect_end-requires
-effect_end-requires c = key_within (minus ∷ []) _ _ (within (goal.at.effect_end-requires c).Else-not-begins_at) (sym c.begins_at-2.ensures ∙ c.if-begins_at.true)
-
-pub returns-then-begins_at : goal.returns-then-begins_at
+pub returns-in-Some : goal.returns-in-Some
 unfolding effect_form
-returns-then-begins_at c = rw (key_is (goal.at.returns-then-begins_at c).Else-not-begins_at, sym c.begins_at-2.ensures ∙ c.if-begins_at.true) c.effect_end.ensures
-
-pub effect_end-requires-2 : goal.effect_end-requires-2
-effect_end-requires-2 c = within (goal.at.effect_end-requires-2 c).Else-not-begins_at
+returns-in-Some c =
+    let key = c.args.key.now in
+    let line = c.args.line.now in
+    let s = c.in_ok-number.ensures.cases in
+    let m = c.in-Some.ensures.cases in
+    let b : begins key line ≡ true = sym (strip_is line key) ∙ s.0 in
+    let sign : begins (minus ∷ []) (drop (length key) line) ≡ true = rw (← s.1) (sym (strip_is _ (minus ∷ [])) ∙ m.0) in
+    let rest : c.in-Some.size.now ≡ drop (length key + 1) line = m.1 ∙ ap (drop 1) s.1 ∙ drop-drop 1 (length key) line in
+    let within : length key + 1 ≤ length line = omega (arith, s.2, m.2) in
+    rw (b, sign, end_rest c.args.place line (length key + 1) true within, ← rest) c.effect_end.ensures
 
 pub returns : goal.returns
 unfolding effect_form
-returns c = rw (key_is (goal.at.returns c).Else-not-begins_at, sym c.begins_at-2.ensures ∙ c.if-begins_at.false) c.effect_end-2.ensures
+returns c =
+    let key = c.args.key.now in
+    let line = c.args.line.now in
+    let s = c.in_ok-number.ensures.cases in
+    let b : begins key line ≡ true = sym (strip_is line key) ∙ s.0 in
+    let plain : begins (minus ∷ []) (drop (length key) line) ≡ false = rw (← s.1) (sym (strip_is _ (minus ∷ [])) ∙ c.in_default.ensures.cases) in
+    let within : length key ≤ length line = omega (arith, s.2) in
+    rw (b, plain, end_rest c.args.place line (length key) false within, ← s.1) c.effect_end-2.ensures

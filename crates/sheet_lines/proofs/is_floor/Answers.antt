@@ -1,12 +1,14 @@
--- `sheet_lines::is_floor` meets its contract. Assumes nothing.
+-- `sheet_lines::is_floor` meets its contract: what begins with the first key of a floor line, where dead is due. Assumes nothing.
+use mathlib.Core.Path.{◌∙◌}
 use borrow.Author.Tests.{eq-eqb, ne_eqb}
 use Rattle.sheet_lines.specs.Form.{floor_keys, is_floor}
+use Rattle.sheet_lines.proofs.AtPlace.{begins_is}
 use Rattle.sheet_lines.proofs.is_floor.Goals as goal
 
-pub returns-then-place-ne0 : goal.returns-then-place-ne0
-unfolding is_floor
-returns-then-place-ne0 c = rw (ne_eqb _ _ c.if-place-ne0.true)
-
-pub returns : goal.returns
+pub returns-then-place-eq0 : goal.returns-then-place-eq0
 unfolding is_floor floor_keys
-returns c = rw (eq-eqb _ _ c.if-place-ne0.false) c.begins_at.ensures
+returns-then-place-eq0 c = rw (eq-eqb _ _ c.if-place-eq0.true) (c.starts_with.ensures.value ∙ begins_is _ _)
+
+pub returns-else-place-eq0 : goal.returns-else-place-eq0
+unfolding is_floor
+returns-else-place-eq0 c = simp (ne_eqb _ _ c.if-place-eq0.false)

@@ -1,18 +1,12 @@
--- `sheet_lines::member_form` meets its contract: the numbers behind its keys, read by their places in one text. Assumes nothing.
-use mathlib.Core.Path.{refl, sym, ◌∙◌}
-use Rattle.sheet_lines.specs.Form.{member_keys, member_form}
-use Rattle.sheet_lines.specs.inner.InLine.{parts_of, rising}
-use Rattle.sheet_lines.proofs.AtPlace.{form_told}
+-- `sheet_lines::member_form` meets its contract: the number behind its key. Assumes nothing.
+use mathlib.Core.Path.{sym, ◌∙◌}
+use Rattle.sheet_lines.specs.Form.{member_keys, form_by, member_form}
 use Rattle.sheet_lines.proofs.member_form.Goals as goal
 
-pub read_fields-requires : goal.read_fields-requires
-unfolding rising
-read_fields-requires c = record { count = refl; order = refl }
-
-pub returns-then-read_fields : goal.returns-then-read_fields
-unfolding member_form member_keys parts_of
-returns-then-read_fields c = let r = c.read_fields in sym (form_told r.result r.new.numbers _ r.ensures ∙ rw c.if-read_fields.true)
+pub returns-in_err-code : goal.returns-in_err-code
+unfolding member_form member_keys form_by
+returns-in_err-code c = rw (c.from_residual.ensures, sym c.read_fields.ensures ∙ c.in_err-code.was)
 
 pub returns : goal.returns
-unfolding member_form member_keys parts_of
-returns c = let r = c.read_fields in sym (form_told r.result r.new.numbers _ r.ensures ∙ rw c.if-read_fields.false)
+unfolding member_form member_keys form_by
+returns c = rw (sym c.read_fields.ensures ∙ c.in_ok-code.was)

@@ -1,57 +1,74 @@
--- `sheet_lines::number::number_at` meets its contract: reading on from here gives what reading from the place gives. Assumes nothing.
+-- `sheet_lines::number::number_at` meets its contract: reading on from here gives what reading from the start gives. Assumes nothing.
 use mathlib.Core.Path.{refl, sym, ◌∙◌, subst⁻¹}
 use mathlib.Core.Bool.{true, false}
 use Prim.Native.Nat.{◌<◌, ◌^◌}
 use native.Mathlib.Omega.{arith}
 use lib.Dec.{lit<}
+use lib.ListN.{length}
 use Rattle.sheet_lines.specs.Number.{number_at}
 use Rattle.sheet_lines.specs.inner.InLine.{Small}
-use Rattle.sheet_lines.proofs.AtPlace.{number_end, number_low, number_high, number_digit, grow_only, grown, below, ended_small}
+use Rattle.sheet_lines.proofs.AtPlace.{number_end, number_other, number_digit, grow_only, grown, below, ended_small}
 use Rattle.sheet_lines.proofs.number.number_at.Goals as goal
 use Rattle.sheet_lines.proofs.number.number_at.Goals.{Else-not-may_grow}
 
 -- where a digit may follow, fewer than 13 are read, and the value so far is below 10 ^ 12
-small : (c : Else-not-may_grow) → (c.loop-next.count < 13) × (c.loop-next.value < 10 ^ 12)
+small : (c : Else-not-may_grow) → (c.loop-byte.count < 13) × (c.loop-byte.value < 10 ^ 12)
 small c =
-    let l = c.loop-next in
+    let l = c.loop-byte in
     let few : l.count < 13 = (grow_only l.count _ (sym c.may_grow.ensures ∙ c.if-not-may_grow.false)).0 in
-    (few, below {count = l.count} {most = 12} l.invariant.1.0 (omega arith))
+    (few, below {count = l.count} {most = 12} l.invariant.value (omega arith))
 
-pub loop-next-init : goal.loop-next-init
+pub loop-byte-init : goal.loop-byte-init
 unfolding number_at
-loop-next-init c = (refl, (lit< tt, omega arith))
+loop-byte-init c = record { same = refl; place = refl; value = lit< tt; count = omega arith }
 
-pub returns-then-byte-lt48 : goal.returns-then-byte-lt48
-returns-then-byte-lt48 c =
-    let l = c.loop-next in
-    (c.number_ended.ensures ∙ sym (l.invariant.0 ∙ number_low _ _ _ _ c.loop-next-test.true c.if-byte-lt48.true), subst⁻¹ (Small _) c.number_ended.ensures (ended_small l.count l.value l.next _ l.invariant.1.0 l.invariant.1.1.0 l.invariant.1.1.1))
+pub returns-then-not-is_ascii_digit-clause-value : goal.returns-then-not-is_ascii_digit-clause-value
+returns-then-not-is_ascii_digit-clause-value c =
+    let l = c.loop-byte in
+    let t : l.count < length c.args.text.now = omega arith in
+    c.number_ended.ensures ∙ sym (l.invariant.same ∙ number_other _ l.count l.value l.count t (rw l.invariant.place at c.if-not-is_ascii_digit.ensures.cases))
 
-pub returns-then-byte-gt57 : goal.returns-then-byte-gt57
-returns-then-byte-gt57 c =
-    let l = c.loop-next in
-    (c.number_ended-then-byte-gt57.ensures ∙ sym (l.invariant.0 ∙ number_high _ _ _ _ c.loop-next-test.true c.if-byte-lt48.false c.if-byte-gt57.true), subst⁻¹ (Small _) c.number_ended-then-byte-gt57.ensures (ended_small l.count l.value l.next _ l.invariant.1.0 l.invariant.1.1.0 l.invariant.1.1.1))
+pub returns-then-not-is_ascii_digit-clause-small : goal.returns-then-not-is_ascii_digit-clause-small
+returns-then-not-is_ascii_digit-clause-small c =
+    let l = c.loop-byte in
+    subst⁻¹ (Small (length c.args.text.now)) c.number_ended.ensures (ended_small l.count l.value l.count _ l.invariant.value l.invariant.count (omega arith))
 
-pub returns-then-not-may_grow : goal.returns-then-not-may_grow
+pub returns-then-not-may_grow-clause-value : goal.returns-then-not-may_grow-clause-value
+returns-then-not-may_grow-clause-value c =
+    let l = c.loop-byte in
+    let t : l.count < length c.args.text.now = omega arith in
+    let d = rw l.invariant.place at c.if-not-is_ascii_digit.ensures.cases in
+    sym (l.invariant.same ∙ number_digit _ l.count l.value l.count t d.0 d.1 false (sym c.may_grow.ensures ∙ c.if-not-may_grow.true))
+
+pub returns-then-not-may_grow-clause-small : goal.returns-then-not-may_grow-clause-small
 unfolding Small
-returns-then-not-may_grow c = (sym (c.loop-next.invariant.0 ∙ number_digit _ _ _ _ c.loop-next-test.true c.if-byte-lt48.false c.if-byte-gt57.false false (sym c.may_grow.ensures ∙ c.if-not-may_grow.true)), tt)
+returns-then-not-may_grow-clause-small c = tt
 
 pub overflow_mul-value : goal.overflow_mul-value
 overflow_mul-value c = omega (arith, (small (goal.at.overflow_mul-value c).Else-not-may_grow).1)
 
 pub overflow_add-value : goal.overflow_add-value
-overflow_add-value c = omega (arith, (small (goal.at.overflow_add-value c).Else-not-may_grow).1)
+overflow_add-value c = omega (arith, (small (goal.at.overflow_add-value c).Else-not-may_grow).1, c.if-not-is_ascii_digit.ensures.cases)
 
-pub overflow_add-count : goal.overflow_add-count
-overflow_add-count c = omega (arith, (small (goal.at.overflow_add-count c).Else-not-may_grow).0)
+pub loop-byte-preserved : goal.loop-byte-preserved
+loop-byte-preserved c =
+    let l = c.loop-byte in
+    let t : l.count < length c.args.text.now = omega arith in
+    let d = rw l.invariant.place at c.if-not-is_ascii_digit.ensures.cases in
+    let few = small (goal.at.loop-byte-preserved c).Else-not-may_grow in
+    record {
+      same = l.invariant.same ∙ number_digit _ l.count l.value l.count t d.0 d.1 true (sym c.may_grow.ensures ∙ c.if-not-may_grow.false) ∙ rw l.invariant.place;
+      place = omega arith;
+      value = grown l.count l.value _ l.invariant.value (omega (arith, c.if-not-is_ascii_digit.ensures.cases));
+      count = omega (arith, few.0);
+    }
 
-pub loop-next-preserved : goal.loop-next-preserved
-loop-next-preserved c =
-    let l = c.loop-next in (
-      l.invariant.0 ∙ number_digit _ _ _ _ c.loop-next-test.true c.if-byte-lt48.false c.if-byte-gt57.false true (sym c.may_grow.ensures ∙ c.if-not-may_grow.false),
-      (grown l.count l.value _ l.invariant.1.0 (omega arith), omega (arith, (small (goal.at.loop-next-preserved c).Else-not-may_grow).0)),
-    )
+pub returns-clause-value : goal.returns-clause-value
+returns-clause-value c =
+    let l = c.loop-byte in
+    c.number_ended-2.ensures ∙ sym (l.invariant.same ∙ number_end _ _ _ _ (omega arith))
 
-pub returns : goal.returns
-returns c =
-    let l = c.loop-next in
-    (c.number_ended-2.ensures ∙ sym (l.invariant.0 ∙ number_end _ _ _ _ c.loop-next-test.false), subst⁻¹ (Small _) c.number_ended-2.ensures (ended_small l.count l.value l.next _ l.invariant.1.0 l.invariant.1.1.0 l.invariant.1.1.1))
+pub returns-clause-small : goal.returns-clause-small
+returns-clause-small c =
+    let l = c.loop-byte in
+    subst⁻¹ (Small (length c.args.text.now)) c.number_ended-2.ensures (ended_small l.count l.value l.count _ l.invariant.value l.invariant.count (omega arith))

@@ -1,0 +1,127 @@
+-- What is read from a place of a line on is what is read at the start of the rest, with its places counted from there.
+-- Assumes nothing.
+use mathlib.Core.Path.{◌≡◌, refl, sym, ◌∙◌, ap}
+use mathlib.Core.Bool.{Bool, true, false, cond, ◌&&◌}
+use mathlib.Core.List.{List, [], ◌∷◌, ◌++◌}
+use Prim.Native.Nat.{ℕ, ◌+◌, ◌-◌, ◌*◌, ◌≤◌}
+use native.Mathlib.Omega.{arith}
+use native.Mathlib.Nat.{add_assoc, add-zero, zero-add}
+use lib.Dec.{eqb, ltb}
+use lib.Pointwise.{pointwise}
+use lib.ListN.{length, take, drop, length-drop}
+use lib.Seq.{drop-drop}
+use borrow.Author.Tests.{eq-eqb, ne_eqb, eqb-true, eqb-false}
+use Rattle.std.specs.Prelude.{Option, Some, None, option_map}
+use Rattle.sheet_lines.specs.declared.number.Read.{Read}
+use Rattle.sheet_lines.specs.declared.Form.TheVariants.{Effect}
+use Rattle.newtons.specs.Effect.{signed}
+use Rattle.sheet_lines.specs.Number.{may_grow, number_ended, number_from, number_at, begins, field_at}
+use Rattle.sheet_lines.specs.Form.{with_number, fields_from, effect_end}
+use Rattle.sheet_lines.proofs.AtPlace.{read, strip_is}
+
+-- a number whose place is counted from further back
+abbrev pub moved : ℕ → Option Read → Option Read
+moved n o = option_map (λ r. read r.value (n + r.next)) o
+
+ended_moved : (n c v p : ℕ) → number_ended c v (n + p) ≡ moved n (number_ended c v p)
+unfolding number_ended
+ended_moved n c v p = go (eqb c 0)
+  where
+    go : (t : Bool) → cond t None (Some (read v (n + p))) ≡ moved n (cond t None (Some (read v p)))
+    go true = refl
+    go false = refl
+
+number_moved : (n c v p : ℕ) (s : List ℕ) → number_from c v (n + p) s ≡ moved n (number_from c v p s)
+unfolding number_from
+number_moved n c v p [] = ended_moved n c v p
+number_moved n c v p (b ∷ s) =
+    go (ltb b 48) (ltb 57 b) (may_grow c v)
+    (ap (λ (q : ℕ). number_from (c + 1) (v * 10 + (b - 48)) q s) (add_assoc n p 1) ∙ number_moved n (c + 1) (v * 10 + (b - 48)) (p + 1) s)
+  where
+    go : (t u w : Bool) → number_from (c + 1) (v * 10 + (b - 48)) (n + p + 1) s ≡ moved n (number_from (c + 1) (v * 10 + (b - 48)) (p + 1) s)
+        → cond t (number_ended c v (n + p)) (cond u (number_ended c v (n + p)) (cond w (number_from (c + 1) (v * 10 + (b - 48)) (n + p + 1) s) None))
+        ≡ moved n (cond t (number_ended c v p) (cond u (number_ended c v p) (cond w (number_from (c + 1) (v * 10 + (b - 48)) (p + 1) s) None)))
+    go true u w e = ended_moved n c v p
+    go false true w e = ended_moved n c v p
+    go false false true e = e
+    go false false false e = refl
+
+number_rest : (l : List ℕ) (at p : ℕ) → number_at l (at + p) ≡ moved at (number_at (drop at l) p)
+unfolding number_at
+number_rest l at p = rw (drop-drop p at l) (number_moved at 0 0 p (drop (at + p) l))
+
+field_rest : (key l : List ℕ) (at p : ℕ) → field_at key l (at + p) ≡ moved at (field_at key (drop at l) p)
+unfolding field_at
+field_rest key l at p =
+    rw (drop-drop p at l, add_assoc at p (length key), number_rest l at (p + length key))
+    (go (begins key (drop (at + p) l)))
+  where
+    go : (t : Bool) → cond t (moved at (number_at (drop at l) (p + length key))) None ≡ moved at (cond t (number_at (drop at l) (p + length key)) None)
+    go true = refl
+    go false = refl
+
+-- how a number that is counted from further back is gone on with
+with_moved : {A : Type 0} (n : ℕ) (o : Option Read) (go : ℕ → ℕ → Option A) → with_number (moved n o) go ≡ with_number o λ v p. go v (n + p)
+unfolding with_number
+with_moved n None go = refl
+with_moved n (Some r) go = refl
+
+with_same : {A : Type 0} (o : Option Read) (f g : ℕ → ℕ → Option A) → ((v p : ℕ) → f v p ≡ g v p) → with_number o f ≡ with_number o g
+unfolding with_number
+with_same None f g e = refl
+with_same (Some r) f g e = e r.value r.next
+
+at_end : (l : List ℕ) (at p : ℕ) → at ≤ length l → eqb (at + p) (length l) ≡ eqb p (length (drop at l))
+at_end l at p h = go (eqb p (length (drop at l))) refl
+  where
+    go : (t : Bool) → eqb p (length (drop at l)) ≡ t → eqb (at + p) (length l) ≡ t
+    go true e = eq-eqb (at + p) (length l) (omega (arith, eqb-true p (length (drop at l)) e, length-drop at l))
+    go false e = ne_eqb (at + p) (length l) (λ q. eqb-false p (length (drop at l)) e (omega (arith, q, length-drop at l)))
+
+fields_moved : (done : List ℕ) (keys : List (List ℕ)) (l : List ℕ) (at p : ℕ) → at ≤ length l → fields_from done keys l (at + p) ≡ fields_from done keys (drop at l) p
+unfolding fields_from
+fields_moved done [] l at p h = rw (at_end l at p h)
+fields_moved done (key ∷ keys) l at p h =
+    rw (field_rest key l at p)
+    (with_moved at (field_at key (drop at l) p) (λ n next. fields_from (done ++ (n ∷ [])) keys l next)
+    ∙ with_same (field_at key (drop at l) p) _ _ λ n q. fields_moved (done ++ (n ∷ [])) keys l at q h)
+
+pub fields_rest : (done : List ℕ) (keys : List (List ℕ)) (l : List ℕ) (at : ℕ) → at ≤ length l → fields_from done keys l at ≡ fields_from done keys (drop at l) 0
+fields_rest done keys l at h = ap (fields_from done keys l) (sym (add-zero at)) ∙ fields_moved done keys l at 0 h
+
+-- the number behind a key is the one at the start of what stands behind it
+pub field_behind : (key s : List ℕ) {rest : List ℕ} {o : Option Read} → pointwise eqb (take (length key) s) key ≡ true → rest ≡ drop (length key) s → o ≡ number_at rest 0
+    → field_at key s 0 ≡ moved (length key) o
+unfolding field_at
+field_behind key s {rest} {o} e r n =
+    let b : begins key s ≡ true = sym (strip_is s key) ∙ e in
+    let o_is : number_at (drop (length key) s) 0 ≡ o = ap (λ (t : List ℕ). number_at t 0) (sym r) ∙ sym n in
+    rw b (ap (number_at s) (zero-add (length key) ∙ sym (add-zero (length key))) ∙ number_rest s (length key) 0 ∙ ap (moved (length key)) o_is)
+
+-- and so the number that ends a line
+pub end_rest : (k : ℕ) (l : List ℕ) (at : ℕ) (negative : Bool) → at ≤ length l → effect_end k l at negative ≡ effect_end k (drop at l) 0 negative
+unfolding effect_end
+end_rest k l at negative h =
+    rw (ap (number_at l) (sym (add-zero at)) ∙ number_rest l at 0)
+    (with_moved at (number_at (drop at l) 0) (λ v next. cond (eqb next (length l)) (cond (negative && eqb v 0) None (Some (Effect k (signed negative v)))) None)
+    ∙ with_same (number_at (drop at l) 0) _ _ λ v q. rw (at_end l at q h))
+
+-- one number more of a line is read, behind its key
+pub fields_more : (done : List ℕ) (key : List ℕ) (keys : List (List ℕ)) (s : List ℕ) (v p : ℕ) → field_at key s 0 ≡ Some (read v p) → p ≤ length s
+    → fields_from done (key ∷ keys) s 0 ≡ fields_from (done ++ (v ∷ [])) keys (drop p s) 0
+unfolding fields_from with_number
+fields_more done key keys s v p e h = rw e (fields_rest (done ++ (v ∷ [])) keys s p h)
+
+-- or none is
+pub fields_none : (done : List ℕ) (key : List ℕ) (keys : List (List ℕ)) (s : List ℕ) → field_at key s 0 ≡ None → fields_from done (key ∷ keys) s 0 ≡ None
+unfolding fields_from with_number
+fields_none done key keys s e = rw e
+
+-- after the last key the line has ended
+pub fields_end : (done s : List ℕ) → length s ≡ 0 → fields_from done [] s 0 ≡ Some done
+unfolding fields_from
+fields_end done s h = rw (eq-eqb 0 (length s) (sym h))
+
+pub fields_left : (done s : List ℕ) → (length s ≡ 0 → ⊥) → fields_from done [] s 0 ≡ None
+unfolding fields_from
+fields_left done s h = rw (ne_eqb 0 (length s) (λ e. h (sym e)))
