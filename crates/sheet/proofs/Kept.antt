@@ -17,8 +17,10 @@ use Rattle.sheet_lines.specs.declared.Due.{Due}
 use Rattle.sheet_lines.specs.declared.Due.TheVariants as D
 use Rattle.sheet_lines.specs.declared.Form.{Form}
 use Rattle.refusal.specs.Said.{Said, gives, refused}
-use Rattle.sheet_lines.specs.Form.{effect_count, Content, member_said, floor_said, effect_said, said_form, line_said}
-use Rattle.sheet_lines.specs.theorems.Says.{member, floor, effect}
+use Rattle.std.specs.Prelude.{Option}
+use Rattle.sheet_lines.specs.declared.Form.TheVariants as F
+use Rattle.sheet_lines.specs.Form.{effect_count, said_form, line_said}
+use Rattle.sheet_lines.specs.theorems.Says.{Says, member, floor, effect}
 use Rattle.sheet_lines.proofs.SaysForm.{Read, says, malformed, form_read}
 use Rattle.sheet.specs.declared.Sheet.{Sheet}
 use Rattle.sheet.specs.declared.Reading.{Reading}
@@ -58,32 +60,35 @@ pub each_within : {es : List ℤ} → EffectsWithin es → (k : ℕ) → magnitu
 each_within w k = all_at {P = Within} (pos 0) (omega arith) w.each k
 
 -- what holds before a line that says this
-unfoldable pub Ready : Draft → Said Content → Type 0
-Ready d (gives (member_said code)) = d.sheet.column ≡ unopened
-Ready d (gives (floor_said x)) = Reached d.sheet.column
-Ready d (gives (effect_said k z)) = (k < effect_count) × Reached d.sheet.column
+unfoldable pub Ready : Draft → Said Form → Type 0
+Ready d (gives (F.Member code)) = d.sheet.column ≡ unopened
+Ready d (gives (F.Floor x)) = Reached d.sheet.column
+Ready d (gives (F.Effect k z)) = (k < effect_count) × Reached d.sheet.column
 Ready d (refused n _) = Unit {0}
 
-pub line_ready : (d : Draft) (l : List ℕ) {t : Said Content} → line_said d.due l ≡ t → Kept d → Ready d t
+pub line_ready : (d : Draft) (l : List ℕ) {t : Said Form} → line_said d.due l ≡ t → Kept d → Ready d t
 unfolding Ready KeepsColumn said_form line_said
 line_ready d l e k = subst (Ready d) e (go (form_read d.due l))
   where
     at : {due : Due} → d.due ≡ due → KeepsColumn due d.sheet.column
     at q = subst (λ (u : Due). KeepsColumn u d.sheet.column) q k.column
 
-    go : {f : Form} → Read d.due l f → Ready d (said_form f)
-    go (malformed e) = subst⁻¹ (λ (f : Form). Ready d (said_form f)) e tt
-    go (says (member code q e t)) = subst⁻¹ (λ (f : Form). Ready d (said_form f)) e (at q)
-    go (says (floor x q e t)) = subst⁻¹ (λ (f : Form). Ready d (said_form f)) e (at q)
-    go (says (effect n z h q e t)) = subst⁻¹ (λ (f : Form). Ready d (said_form f)) e (h, at q)
+    ready : {f : Form} → Says d.due l f → Ready d (gives f)
+    ready (member code q e t) = subst⁻¹ (λ (f : Form). Ready d (gives f)) e (at q)
+    ready (floor x q e t) = subst⁻¹ (λ (f : Form). Ready d (gives f)) e (at q)
+    ready (effect n z h q e t) = subst⁻¹ (λ (f : Form). Ready d (gives f)) e (h, at q)
 
-valued_kept : (d : Draft) (t : Said Content) → Ready d t → Kept d → Kept (valued d t).draft
+    go : {o : Option Form} → Read d.due l o → Ready d (said_form o)
+    go (malformed e) = subst⁻¹ (λ (o : Option Form). Ready d (said_form o)) e tt
+    go (says f e s) = subst⁻¹ (λ (o : Option Form). Ready d (said_form o)) e (ready s)
+
+valued_kept : (d : Draft) (t : Said Form) → Ready d t → Kept d → Kept (valued d t).draft
 unfolding valued Ready KeepsColumn
-valued_kept d (gives (member_said code)) r k =
+valued_kept d (gives (F.Member code)) r k =
     if_kept _ d _ k λ z.
     record { column = reached_opened (member_of code) z; effects = k.effects }
-valued_kept d (gives (floor_said x)) r k = if_kept _ d _ k λ z. record { column = reached_entered x r; effects = k.effects }
-valued_kept d (gives (effect_said n z)) r k =
+valued_kept d (gives (F.Floor x)) r k = if_kept _ d _ k λ z. record { column = reached_entered x r; effects = k.effects }
+valued_kept d (gives (F.Effect n z)) r k =
     if_kept (effect_number z) d (with_effect d n z) k λ h.
     record { column = r.1; effects = record { count = length-set d.sheet.effects n z ∙ k.effects.count; each = all_set {P = Within} n z (effect_taken z h) k.effects.each } }
 valued_kept d (refused n _) r k = if_kept _ d d k (λ _. k)
@@ -98,11 +103,11 @@ if_same : (n : ℕ) (d next : Draft) → (n ≡ 0 → ⊥) → (if_taken n d nex
 unfolding if_taken
 if_same n d next h = rw (ne_eqb n 0 h)
 
-valued_same : (d : Draft) (t : Said Content) → ((valued d t).number ≡ 0 → ⊥) → (valued d t).draft ≡ d
+valued_same : (d : Draft) (t : Said Form) → ((valued d t).number ≡ 0 → ⊥) → (valued d t).draft ≡ d
 unfolding valued if_taken
-valued_same d (gives (member_said code)) h = if_same _ d _ h
-valued_same d (gives (floor_said x)) h = if_same _ d _ h
-valued_same d (gives (effect_said k z)) h = if_same (effect_number z) d (with_effect d k z) h
+valued_same d (gives (F.Member code)) h = if_same _ d _ h
+valued_same d (gives (F.Floor x)) h = if_same _ d _ h
+valued_same d (gives (F.Effect k z)) h = if_same (effect_number z) d (with_effect d k z) h
 valued_same d (refused n _) h = if_same _ d d h
 
 pub line_refused : (d : Draft) (l : List ℕ) → ((line_taken d l).number ≡ 0 → ⊥) → (line_taken d l).draft ≡ d

@@ -8,7 +8,9 @@ use Rattle.newtons.specs.Effect.{within}
 use Rattle.sheet_lines.specs.declared.Due.{Due}
 use Rattle.sheet_lines.specs.declared.Due.TheVariants as D
 use Rattle.refusal.specs.Said.{Said, gives, refused}
-use Rattle.sheet_lines.specs.Form.{effect_count, Content, member_said, floor_said, effect_said, line_said}
+use Rattle.sheet_lines.specs.declared.Form.{Form}
+use Rattle.sheet_lines.specs.declared.Form.TheVariants as F
+use Rattle.sheet_lines.specs.Form.{effect_count, line_said}
 use Rattle.sheet.specs.declared.Sheet.{Sheet}
 use Rattle.sheet.specs.declared.Reading.{Reading}
 use Rattle.text.specs.Lines.{Lines, line, rest, split}
@@ -54,10 +56,10 @@ abbrev pub with_outcome : Draft → Outcome → Taken
 with_outcome d o = if_taken o.number d (with_column d o.column)
 
 -- 01, Numbers by the place of checking: what becomes of what a line says, by its values 1, 2 to 6 or 9; without the form 10
-unfoldable pub valued : Draft → Said Content → Taken
-valued d (gives (member_said code)) = with_outcome d (opened_of (member_of code))
-valued d (gives (floor_said l)) = with_outcome d (entered_of d.sheet.column l)
-valued d (gives (effect_said k z)) = if_taken (effect_number z) d (with_effect d k z)
+unfoldable pub valued : Draft → Said Form → Taken
+valued d (gives (F.Member code)) = with_outcome d (opened_of (member_of code))
+valued d (gives (F.Floor l)) = with_outcome d (entered_of d.sheet.column l)
+valued d (gives (F.Effect k z)) = if_taken (effect_number z) d (with_effect d k z)
 valued d (refused n _) = if_taken n d d
 
 -- 01, Numbers by the place of checking: "each line: form, then its values"

@@ -3,7 +3,7 @@ ghost use Rattle.std.specs.Prelude.{◌≡◌, List, ℕ, ◌<◌};
 ghost use Rattle.column.specs.inner.Sound.{no_places};
 ghost use Rattle.column.specs.Column.{column_from, unopened, Reached};
 ghost use Rattle.refusal.specs.Said.{gives};
-ghost use Rattle.sheet_lines.specs.Form.{effect_count, member_said, floor_said, effect_said};
+ghost use Rattle.sheet_lines.specs.Form.{effect_count};
 ghost use Rattle.sheet.specs.Sheet.{unread, is_complete, effect_number, valued, line_taken};
 ghost use Rattle.sheet.specs.inner.SoFar.{KeepsSoFar};
 ghost use Rattle.sheet.specs.inner.InPlace.{draft_of, taken_of};
@@ -64,7 +64,7 @@ fn effect_number(newtons: i64) -> u64
 // The sheet with a member that is opened; as it was where opening is refused. No line is held before
 // the member, so the places are those of a column without lines.
 fn open_member(progress: Progress, code: u64) -> Step
-    ensures { (places : List ℕ) → column_from progress.member progress.count places ≡ unopened → taken_of result places ≡ valued (draft_of progress places) (gives (member_said code)) }
+    ensures { (places : List ℕ) → column_from progress.member progress.count places ≡ unopened → taken_of result places ≡ valued (draft_of progress places) (gives (Form.Member code)) }
 {
     let opened = column::opening(code);
     if opened.number != 0 {
@@ -89,7 +89,7 @@ fn open_member(progress: Progress, code: u64) -> Step
 // The sheet with a line that is entered; as it was where entering is refused.
 fn enter_line(held: &mut Places, progress: Progress, line: Line) -> Step
     requires { Reached (column_from progress.member progress.count held.old) }
-    ensures { taken_of result held.new ≡ valued (draft_of progress held.old) (gives (floor_said line)) }
+    ensures { taken_of result held.new ≡ valued (draft_of progress held.old) (gives (Form.Floor line)) }
 {
     let member = progress.member;
     let joined = column::enter_in(held, member, progress.count, line);
@@ -114,7 +114,7 @@ fn enter_line(held: &mut Places, progress: Progress, line: Line) -> Step
 // The sheet with the effect at a place; as it was where the effect is beyond the limit.
 fn take_effect(progress: Progress, place: usize, newtons: i64) -> Step
     requires { place < effect_count }
-    ensures { (places : List ℕ) → taken_of result places ≡ valued (draft_of progress places) (gives (effect_said place newtons)) }
+    ensures { (places : List ℕ) → taken_of result places ≡ valued (draft_of progress places) (gives (Form.Effect place newtons)) }
 {
     let refused = effect_number(newtons);
     if refused != 0 {
@@ -143,13 +143,12 @@ pub fn take_line(held: &mut Places, progress: Progress, line: &[u8]) -> Step
     ensures { taken_of result held.new ≡ line_taken (draft_of progress held.old) line.now }
 {
     let due = progress.due;
-    let form = sheet_lines::form_of(due, line);
-    match form {
-        Form::Member(code) => open_member(progress, code),
-        Form::Floor(entry) => enter_line(held, progress, entry),
-        Form::Effect { place, newtons } => take_effect(progress, place, newtons),
-        Form::Malformed => Step {
-            number: refusal::number(Refusal::SheetMalformed),
+    match sheet_lines::form_of(due, line) {
+        Ok(Form::Member(code)) => open_member(progress, code),
+        Ok(Form::Floor(entry)) => enter_line(held, progress, entry),
+        Ok(Form::Effect { place, newtons }) => take_effect(progress, place, newtons),
+        Err(refusal) => Step {
+            number: refusal.number(),
             progress: progress,
         },
     }

@@ -25,6 +25,7 @@ use Rattle.column.proofs.Reach.{no_condition, reached_is, sound}
 use Rattle.column.proofs.InTurn.{reached_in_turn, in_turn_holdable}
 use Rattle.newtons.specs.Effect.{magnitude_of, limit}
 use Rattle.sheet_lines.specs.declared.Due.TheVariants as D
+use Rattle.refusal.specs.Said.{gives}
 use Rattle.sheet_lines.specs.declared.Form.{Form}
 use Rattle.sheet_lines.specs.declared.Form.TheVariants as F
 use Rattle.sheet_lines.specs.Form.{effect_keys, effect_count, said_form, line_said}
@@ -50,9 +51,9 @@ record ReadsTo (ls : List (List ℕ)) (d : Draft) : Type 0 where
   short : length (text_of ls) ≤ length ls * 78
 
 -- so it has after one line more, which says what is taken
-reads_more : {ls : List (List ℕ)} {d : Draft} (next : Draft) (l : List ℕ) (f : Form) → Says d.due l f → ShortForm f → valued d (said_form f) ≡ record { number = 0; draft = next }
+reads_more : {ls : List (List ℕ)} {d : Draft} (next : Draft) (l : List ℕ) (f : Form) → Says d.due l f → ShortForm f → valued d (gives f) ≡ record { number = 0; draft = next }
     → ReadsTo ls d → ReadsTo (ls ++ (l ∷ [])) next
-unfolding read_from if_read line_taken line_said
+unfolding read_from if_read line_taken line_said said_form
 reads_more {ls} {d} next l f s h v c =
     let b = text_of ls in
     let more = text_more ls l in
@@ -95,7 +96,7 @@ short_line m ls x e =
 -- one floor line more is read
 reads_floor : (m : Member) (xs : List Line) (x : Line) → Holdable xs → entry_number m xs x ≡ 0 → {fs gs hs : List (List ℕ)} → fs ≡ gs ++ hs → SayFloors hs (x ∷ [])
     → ReadsTo (member_text m.code ∷ gs) (lined (column_of m xs)) → ReadsTo (member_text m.code ∷ fs) (lined (column_of m (xs ++ (x ∷ []))))
-unfolding valued said_form if_taken entered_of column_of
+unfolding valued if_taken entered_of column_of
 reads_floor m xs x held e q (and_line {l} t no_line) c =
     subst⁻¹ (λ (k : List (List ℕ)). ReadsTo (member_text m.code ∷ k) (lined (column_of m (xs ++ (x ∷ []))))) q
     (reads_more (lined (column_of m (xs ++ (x ∷ [])))) l (F.Floor x) (floor x refl refl t) (short_line m xs x e) (rw (column_lines m xs held.lines, e)) c)
@@ -103,7 +104,7 @@ reads_floor m xs x held e q (and_line {l} t no_line) c =
 -- the lines before dead are read
 reads_lines : {m : Member} {xs : List Line} → between 1 12 m.code ≡ true → AcceptedInTurn m xs → {fs : List (List ℕ)} → SayFloors fs xs
     → ReadsTo (member_text m.code ∷ fs) (lined (column_of m xs))
-unfolding valued said_form if_taken opened_of text_of ShortForm
+unfolding valued if_taken opened_of text_of ShortForm
 reads_lines {m} h none no_line =
     let start : ReadsTo [] unread = record { reads = λ left. refl; short = omega arith } in
     reads_more (lined (column_of m [])) (member_text m.code) (F.Member m.code) (member m.code refl refl refl) (omega (arith, limits 1 12 m.code h)) (rw h) start
@@ -127,7 +128,7 @@ module _ (s : Sheet) (ok : Keeps s) (fs : List (List ℕ)) (say : SayFloors fs (
       rw (sym (reached_is r)) at (reads_lines (sound r).code (reached_in_turn r) say)
 
   reads_effects : (k : ℕ) → k ≤ effect_count → ReadsTo (lines_with fs k (up_to k).sheet) (up_to k)
-  unfolding lines_with effect_keys valued said_form if_taken effect_number ShortForm
+  unfolding lines_with effect_keys valued if_taken effect_number ShortForm
   reads_effects zero h = rw (append-nil fs) reads_before
   reads_effects (suc k) h =
       let es = s.effects in
@@ -136,7 +137,7 @@ module _ (s : Sheet) (ok : Keeps s) (fs : List (List ℕ)) (say : SayFloors fs (
       let l = effect_text (key_at effect_keys k) z in
       let within : magnitude_of z ≤ limit = each_within ok.effects k in
       let next : set so_far k z ≡ (up_to (suc k)).sheet.effects = filled es (replicate effect_count (pos 0)) k ok.effects.count (omega (arith, ok.effects.count)) in
-      let taken : valued (up_to k) (said_form (F.Effect k z)) ≡ record { number = 0; draft = up_to (suc k) } = rw (le-leb (magnitude_of z) limit within, add-one k, next) in
+      let taken : valued (up_to k) (gives (F.Effect k z)) ≡ record { number = 0; draft = up_to (suc k) } = rw (le-leb (magnitude_of z) limit within, add-one k, next) in
       let six : length so_far ≡ effect_count = length-append (take k es) (drop k (replicate effect_count (pos 0))) ∙ omega (arith, length-take-le k es (omega (arith, ok.effects.count)), length-drop k (replicate effect_count (pos 0))) in
       let lines = rw (add-one k, next) at (lines_next effect_keys so_far k z l six h refl) in
       rw (lines, ← append_assoc fs (take k (effect_lines effect_keys so_far)) (l ∷ []))

@@ -16,11 +16,13 @@ use Rattle.column.specs.Column.{lines_of, column_of, member_of, entered_of}
 use Rattle.column.proofs.Columns.{column_lines, more_lines}
 use Rattle.column.proofs.Reach.{no_condition, opened_column}
 use Rattle.sheet_lines.specs.declared.Due.{Due}
+use Rattle.std.specs.Prelude.{Option}
+use Rattle.refusal.specs.Said.{gives}
 use Rattle.sheet_lines.specs.declared.Form.{Form}
 use Rattle.refusal.specs.Refusal.{number_of}
 use Rattle.sheet_lines.specs.Form.{effect_keys, said_form, line_said}
 use Rattle.sheet_lines.specs.LineText.{effect_text}
-use Rattle.sheet_lines.specs.theorems.Says.{SaysFloor, member, floor, effect, key_at}
+use Rattle.sheet_lines.specs.theorems.Says.{SaysFloor, Says, member, floor, effect, key_at}
 use Rattle.sheet_lines.proofs.SaysForm.{Read, says, malformed, form_read}
 use Rattle.sheet.specs.Sheet.{Draft, if_taken, valued, line_taken}
 use Rattle.sheet.proofs.Kept.{Kept}
@@ -71,19 +73,18 @@ module _ (d : Draft) (l : List ℕ) (kept : Kept d) (ls : List (List ℕ)) (so_f
   unfolding if_taken
   if_adds n next f h = rw h (f h)
 
-  adds : {f : Form} → Read d.due l f → (valued d (said_form f)).number ≡ 0 → Adds (valued d (said_form f)).draft
-  unfolding valued said_form number_of SayBefore lines_with column_of entered_of entry_number effect_keys
-  adds (malformed e) = subst⁻¹ (λ (f : Form). (valued d (said_form f)).number ≡ 0 → Adds (valued d (said_form f)).draft) e (if_adds 10 d (λ h. absurd (omega arith)))
-  adds (says (member code q e t)) =
+  adds_said : {f : Form} → Says d.due l f → (valued d (gives f)).number ≡ 0 → Adds (valued d (gives f)).draft
+  unfolding valued SayBefore lines_with column_of entered_of entry_number effect_keys
+  adds_said (member code q e t) =
       let m = member_of code in
-      subst⁻¹ (λ (f : Form). (valued d (said_form f)).number ≡ 0 → Adds (valued d (said_form f)).draft) e
+      subst⁻¹ (λ (f : Form). (valued d (gives f)).number ≡ 0 → Adds (valued d (gives f)).draft) e
       (if_adds _ _ λ h.
       subst⁻¹ (λ (c : Column). SayWith 0 (record { column = c; effects = d.sheet.effects }) (ls ++ (l ∷ []))) (opened_column m h)
       (record { floors = []; say = rw (column_lines m [] none) no_line; all = rw (before q, t) }))
-  adds (says (floor x q e t)) =
+  adds_said (floor x q e t) =
       let c = d.sheet.column in
       let b : SayWith 0 d.sheet ls = before q in
-      subst⁻¹ (λ (f : Form). (valued d (said_form f)).number ≡ 0 → Adds (valued d (said_form f)).draft) e
+      subst⁻¹ (λ (f : Form). (valued d (gives f)).number ≡ 0 → Adds (valued d (gives f)).draft) e
       (if_adds _ _ λ h.
       rw h
       (record {
@@ -91,16 +92,21 @@ module _ (d : Draft) (l : List ℕ) (kept : Kept d) (ls : List (List ℕ)) (so_f
         say = rw (more_lines c.member c x (no_condition c.member (length (lines_of c)) (last_floor (lines_of c)) x h).1) (say_more b.say t);
         all = floors_grow _ l b.floors b.all;
       }))
-  adds (says (effect k z n q e t)) =
+  adds_said (effect k z n q e t) =
       let es = d.sheet.effects in
       let b : SayWith k d.sheet ls = before q in
-      subst⁻¹ (λ (f : Form). (valued d (said_form f)).number ≡ 0 → Adds (valued d (said_form f)).draft) e
+      subst⁻¹ (λ (f : Form). (valued d (gives f)).number ≡ 0 → Adds (valued d (gives f)).draft) e
       (if_adds _ _ λ h.
       record {
         floors = b.floors;
         say = b.say;
         all = effects_grow _ l b.floors _ b.all (lines_next effect_keys es k z l kept.effects.count n t);
       })
+
+  adds : {o : Option Form} → Read d.due l o → (valued d (said_form o)).number ≡ 0 → Adds (valued d (said_form o)).draft
+  unfolding valued said_form number_of
+  adds (malformed e) = subst⁻¹ (λ (o : Option Form). (valued d (said_form o)).number ≡ 0 → Adds (valued d (said_form o)).draft) e (if_adds 10 d (λ h. absurd (omega arith)))
+  adds (says f e s) = subst⁻¹ (λ (o : Option Form). (valued d (said_form o)).number ≡ 0 → Adds (valued d (said_form o)).draft) e (adds_said s)
 
 -- a line that is taken is one more line
 pub line_adds : (d : Draft) (l : List ℕ) → Kept d → (ls : List (List ℕ)) → SayBefore d.due d.sheet ls → (line_taken d l).number ≡ 0
