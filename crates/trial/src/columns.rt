@@ -4,6 +4,7 @@ ghost use Rattle.column.specs.Column.{Reached};
 use column::{Column, Line};
 use error_bound::AfterList;
 use figure::Asked;
+use refusal::Refusal;
 use std::alloc::{AllocError, Global};
 
 // The most numbers that are kept: those of 300 entries.
@@ -20,26 +21,24 @@ pub struct State {
 
 impl State {
     // Before the first opening there is an interior column without lines.
-    #[tactic(auto, unfolding(column::specs::Column::opened_of))]
+    #[tactic(auto, unfolding(column::specs::Column::opened_as, column::specs::Column::opened_of), using(refusal::proofs::Said::number_positive))]
     pub fn new(alloc: Global) -> State {
-        let first = column::open(1);
-        let column = first.column;
-        State {
-            column,
-            code: 1,
-            numbers: Vec::new(alloc),
+        match Column::open(1) {
+            Ok(column) => State {
+                column,
+                code: 1,
+                numbers: Vec::new(alloc),
+            },
+            Err(_) => unreachable!(),
         }
     }
 
     // Opens a member; a refused one leaves the column.
-    pub fn open(&mut self, code: u64) -> u64 {
-        let opened = column::open(code);
-        if opened.number == 0 {
-            self.column = opened.column;
-        }
+    pub fn open(&mut self, code: u64) -> Result<(), Refusal> {
         self.code = code;
         self.numbers.clear();
-        opened.number
+        self.column = Column::open(code)?;
+        Ok(())
     }
 
     // Keeps the numbers of an entry while there is room.
@@ -53,10 +52,8 @@ impl State {
 
     // Enters a line.
     #[tactic(auto, using(crate::proofs::Reached::reached_anyhow))]
-    pub fn enter(&mut self, line: Line) -> u64 {
-        let entered = column::enter(self.column, line);
-        self.column = entered.column;
-        entered.number
+    pub fn enter(&mut self, line: Line) -> Result<(), Refusal> {
+        self.column.enter(line)
     }
 
     // Asks the column at a floor.

@@ -44,7 +44,8 @@ pub fn print_answer<W: Write>(
 }
 
 // Prints the number of opening or entering, 0 where it is not refused.
-pub fn print_number<W: Write>(out: &mut W, number: u64) -> io::Result<()> {
+pub fn print_number<W: Write>(out: &mut W, outcome: Result<(), Refusal>) -> io::Result<()> {
+    let number = outcome.err().map_or(0, |refusal| refusal.number());
     writeln!(out, "number={number}")
 }
 
