@@ -540,6 +540,8 @@ class Forms(Made):
             ("    items: Vec", "    pub items: Vec", "low::Sealed.small can be reached, and asks more"),
             ("    ghost from_gives = { number_of };\n", "", "low::u64::from can be reached, and says nothing"),
             ("\n        ensures { result ≡ count self.now }", "", "low::Counted::count can be reached, and says nothing"),
+            ("impl Counted for Found {", "impl Model for Found {\n    ghost invariant = { number_of };\n}\n\n"
+             "impl Counted for Found {", "low::Found.invariant can be reached, and asks more"),
             ("ghost count = {", "ghost can_count = {", "low::Found.can_count can be reached, and asks more"),
         ):
             status, printed = self.complained(old, new)

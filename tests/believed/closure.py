@@ -27,7 +27,7 @@ def words(text):
     """The words of a definition or a contract; comments and texts in quotes have none."""
     text = re.sub(r"--[^\n]*", "", text)
     text = re.sub(r'"[^"\n]*"', "", text)
-    return [word for word in re.split(r"[\s(){}\[\];,⌜⌝]+", text) if word]
+    return [word for word in re.split(r"[\s(){}\[\];,⌜⌝⟦⟧∥∣]+", text) if word]
 
 
 class Index:

@@ -12,6 +12,7 @@ CALLABLE = re.compile(r"\{\s*[A-Z]\w*\.IsAlwaysCallable [\w.]+\s*\}")
 # How a type whose values a caller can write says the same of the column that they make (column/specs/Lent.antt).
 SEEN = re.compile(r"\{\s*(?:∥ Reached [\w. ]+ ∥₁|\((?:opened_of|entered_again) [\w. ]+\)\.\w+ ≡ [\w.]+)\s*\}")
 ASKING = "can_"  # how the ghost members of traits begin that say when a method may be called
+INVARIANT = "invariant"  # the ghost member of `Model` that is a fact of each value
 USED = re.compile(r"pub use (\w+)::(?:\{([\w\s,]*)\}|(\w+))")
 TYPES = ("struct", "enum", "trait", "type")
 TRIALS = "trial"  # how the names of programs begin that only try the others
@@ -29,7 +30,7 @@ class Contract:
     counts: bool  # among the contracts that say what must be believed
     trait: str = ""  # the trait that an impl block is of, where it is a method there
     silent: bool = False  # whether something else says what it gives: a ghost member of its block, or its trait
-    asks: bool = False  # whether a ghost field is asked of callers, since they can write a value of its type
+    asks: bool = False  # whether a ghost fact is asked of callers, as where they can write a value of its type
 
     @property
     def is_function(self):
@@ -100,7 +101,7 @@ def of_function(item, where, reachable, trait="", silent=False):
     return found + ([Contract(name, item.of_closures, item.names, False, False)] if item.of_closures else [])
 
 
-def of_block(placed, types, seen, traits):
+def of_block(placed, types, seen, traits, sealed):
     """The contracts of the methods and the ghost members of a trait or an impl block."""
     item, found = placed.item, []
     own = types & set(re.findall(r"\w+", item.text))
@@ -113,7 +114,8 @@ def of_block(placed, types, seen, traits):
             silent = bool(item.trait) and (told or (item.trait, each.name) in traits)
             found += of_function(each, where, reachable, item.trait, silent)
         elif each.kind == "ghost":
-            found.append(Contract(f"{where}.{each.name}", each.clauses, each.names, reachable, reachable))
+            asks = each.name.startswith(ASKING) or (each.name == INVARIANT and item.name not in sealed)
+            found.append(Contract(f"{where}.{each.name}", each.clauses, each.names, reachable, reachable, asks=asks))
     return found
 
 
@@ -121,6 +123,7 @@ def all_of(placed):
     """The contracts of the items of a crate."""
     types = {each.item.name for each in placed if each.item.kind in TYPES}
     seen, found = seen_types(placed), []
+    sealed = {each.item.name for each in placed if each.item.sealed}
     traits = {
         (each.item.name, method.name)
         for each in placed
@@ -132,7 +135,7 @@ def all_of(placed):
         if item.kind == "fn":
             found += of_function(item, each.where, each.nameable)
         elif item.kind in ("impl", "trait"):
-            found += of_block(each, types, seen, traits)
+            found += of_block(each, types, seen, traits, sealed)
         for fact in item.members if item.kind == "struct" else []:
             name, reachable = f"{each.where.partition('::')[0]}::{item.name}.{fact.name}", item.name in seen
             found.append(Contract(name, fact.clauses, fact.names, reachable, reachable, asks=not item.sealed))
@@ -163,10 +166,8 @@ def asked_too_much(contract):
     """The clauses of a contract in reach that ask more of a caller than that a column is reached."""
     asked = [text for kind, text in contract.clauses if kind == "requires"]
     more = [text for text in asked if not REACHED.fullmatch(text) and not CALLABLE.fullmatch(text)]
-    ghosts = [text for kind, text in contract.clauses if kind == "ghost"]
-    if contract.asks:
-        more += [text for text in ghosts if not SEEN.fullmatch(text)]
-    return more + (ghosts if contract.function.rpartition(".")[2].startswith(ASKING) else [])
+    facts = [text for kind, text in contract.clauses if kind == "ghost" and contract.asks]
+    return more + [text for text in facts if not SEEN.fullmatch(text)]
 
 
 def complaints(contracts, strange):
