@@ -6,59 +6,115 @@ ghost use Rattle.text.specs.Text.{decimal, signed_parts};
 ghost use Rattle.text.specs.Lines.{newline};
 ghost use Rattle.text.specs.Put.{out, puts};
 
-use newtons::signed;
-
 pub mod scan;
+
+// A lent buffer, and the index in it from which on texts are put.
+#[derive(Drop)]
+pub struct Output<'a> {
+    pub buffer: &'a mut [u8],
+    pub at: usize,
+}
+
+impl<'a> Output<'a> {
+    // Puts a text and goes on behind it; without room for all of it the buffer and the index stay as
+    // they were.
+    pub fn text(&mut self, text: &[u8])
+        ensures same_buffer { self.new.buffer.ghost_name ≡ self.old.buffer.ghost_name }
+        ensures put { out self.new.buffer.now self.new.at ≡ puts self.old.buffer.now self.old.at (text.now ∷ []) }
+    {
+        if self.at > self.buffer.len() {
+            return;
+        }
+        if text.len() > self.buffer.len() - self.at {
+            return;
+        }
+        let end = self.at + text.len();
+        self.buffer[self.at..end].copy_from_slice(text);
+        self.at = end;
+    }
+
+    // Puts the decimal digits of a number, as `text` does.
+    pub fn decimal(&mut self, n: u64)
+        ensures same_buffer { self.new.buffer.ghost_name ≡ self.old.buffer.ghost_name }
+        ensures put { out self.new.buffer.now self.new.at ≡ puts self.old.buffer.now self.old.at (decimal n ∷ []) }
+    {
+        let mut digits = [0u8; 20];
+        let count = io::decimal(n, &mut digits);
+        self.text(&digits[..count]);
+    }
+
+    // Puts a key and the number after it.
+    pub fn field(&mut self, key: &[u8], n: u64)
+        ensures same_buffer { self.new.buffer.ghost_name ≡ self.old.buffer.ghost_name }
+        ensures put { out self.new.buffer.now self.new.at ≡ puts self.old.buffer.now self.old.at (key.now ∷ decimal n ∷ []) }
+    {
+        self.text(key);
+        self.decimal(n);
+    }
+
+    // Puts the newline that ends a line.
+    pub fn newline(&mut self)
+        ensures same_buffer { self.new.buffer.ghost_name ≡ self.old.buffer.ghost_name }
+        ensures put { out self.new.buffer.now self.new.at ≡ puts self.old.buffer.now self.old.at ((newline ∷ []) ∷ []) }
+    {
+        self.text(b"\n");
+    }
+
+    // Puts a number, with a minus sign where it is below 0.
+    pub fn signed(&mut self, n: i64)
+        ensures same_buffer { self.new.buffer.ghost_name ≡ self.old.buffer.ghost_name }
+        ensures put { out self.new.buffer.now self.new.at ≡ puts self.old.buffer.now self.old.at (signed_parts n) }
+    {
+        let below = n < 0;
+        if below {
+            self.text(b"-");
+        }
+        self.decimal(n.unsigned_abs());
+    }
+}
 
 // Puts a text into a buffer from an index on, and gives the index after it; without room for all of
 // it the buffer stays as it was, and the index itself is given.
 pub fn put_text(buffer: &mut [u8], at: usize, text: &[u8]) -> usize
     ensures { out buffer.new result ≡ puts buffer.old at (text.now ∷ []) }
 {
-    if at > buffer.len() {
-        return at;
-    }
-    if text.len() > buffer.len() - at {
-        return at;
-    }
-    let end = at + text.len();
-    buffer[at..end].copy_from_slice(text);
-    end
+    let mut output = Output { buffer, at };
+    output.text(text);
+    output.at
 }
 
 // Puts the decimal digits of a number, as `put_text` does.
 pub fn put_decimal(buffer: &mut [u8], at: usize, n: u64) -> usize
     ensures { out buffer.new result ≡ puts buffer.old at (decimal n ∷ []) }
 {
-    let mut digits = [0u8; 20];
-    let count = io::decimal(n, &mut digits);
-    put_text(buffer, at, &digits[..count])
+    let mut output = Output { buffer, at };
+    output.decimal(n);
+    output.at
 }
 
 // Puts a key and the number after it.
 pub fn put_field(buffer: &mut [u8], at: usize, key: &[u8], n: u64) -> usize
     ensures { out buffer.new result ≡ puts buffer.old at (key.now ∷ decimal n ∷ []) }
 {
-    let next = put_text(buffer, at, key);
-    put_decimal(buffer, next, n)
+    let mut output = Output { buffer, at };
+    output.field(key, n);
+    output.at
 }
 
 // Puts the newline that ends a line.
 pub fn put_newline(buffer: &mut [u8], at: usize) -> usize
     ensures { out buffer.new result ≡ puts buffer.old at ((newline ∷ []) ∷ []) }
 {
-    put_text(buffer, at, b"\n")
+    let mut output = Output { buffer, at };
+    output.newline();
+    output.at
 }
 
 // Puts a number, with a minus sign where it is below 0.
 pub fn put_signed(buffer: &mut [u8], at: usize, n: i64) -> usize
     ensures { out buffer.new result ≡ puts buffer.old at (signed_parts n) }
 {
-    let size = signed::magnitude(n);
-    let below = n < 0;
-    if below {
-        let next = put_text(buffer, at, b"-");
-        return put_decimal(buffer, next, size);
-    }
-    put_decimal(buffer, at, size)
+    let mut output = Output { buffer, at };
+    output.signed(n);
+    output.at
 }

@@ -1,4 +1,4 @@
--- `text::put_text` meets its contract: what is copied into the rest of the buffer stands in the buffer from the index on. Assumes nothing.
+-- `text::Output::text` meets its contract: what is copied into the rest of the buffer stands in the buffer from the index on. Assumes nothing.
 use mathlib.Core.Path.{◌≡◌, sym, ◌∙◌, ap}
 use mathlib.Core.List.{List, ◌++◌, append_assoc}
 use Prim.Native.Nat.{ℕ, ◌+◌, ◌-◌, ◌≤◌}
@@ -7,7 +7,7 @@ use lib.ListN.{length, take, drop}
 use lib.Seq.{sets, sets-eq, drop-drop}
 use Rattle.text.specs.Put.{out, put_one, puts}
 use borrow.Author.Tests.{le-leb, lt-leb}
-use Rattle.text.proofs.put_text.Goals as goal
+use Rattle.text.proofs.Output.text.Goals as goal
 
 -- the rest of a buffer from an index on, with a text copied to its start, put back
 copied : (l text : List ℕ) (at : ℕ) → at + length text ≤ length l
@@ -16,21 +16,21 @@ copied l text at room =
     let size : at + length text - at ≡ length text = omega arith in
     rw (size, drop-drop (length text) at l) (sym (append_assoc (take at l) text (drop (at + length text) l)) ∙ sym (sets-eq text l at room))
 
-pub returns-then-at-buffer : goal.returns-then-at-buffer
+pub returns-then-self-clause-put : goal.returns-then-self-clause-put
 unfolding put_one puts
-returns-then-at-buffer c =
-    let no = lt-leb (c.args.at + length c.args.text.now) (length c.args.buffer.now) (omega arith) in
+returns-then-self-clause-put c =
+    let no = lt-leb (c.args.self.now.at + length c.args.text.now) (length c.args.self.now.buffer.now) (omega arith) in
     rw no
 
-pub returns-then-text-buffer : goal.returns-then-text-buffer
+pub returns-then-text-self-clause-put : goal.returns-then-text-self-clause-put
 unfolding put_one puts
-returns-then-text-buffer c =
-    let no = lt-leb (c.args.at + length c.args.text.now) (length c.args.buffer.now) (omega arith) in
+returns-then-text-self-clause-put c =
+    let no = lt-leb (c.args.self.now.at + length c.args.text.now) (length c.args.self.now.buffer.now) (omega arith) in
     rw no
 
-pub returns : goal.returns
+pub returns-clause-put : goal.returns-clause-put
 unfolding put_one puts
-returns c =
-    let room : c.args.at + length c.args.text.now ≤ length c.args.buffer.now = omega arith in
+returns-clause-put c =
+    let room : c.args.self.now.at + length c.args.text.now ≤ length c.args.self.now.buffer.now = omega arith in
     rw (le-leb _ _ room, c.copy_from_slice.ensures.after)
-    (ap (λ (b : List ℕ). out b (c.args.at + length c.args.text.now)) (copied c.args.buffer.now c.args.text.now c.args.at room))
+    (ap (λ (b : List ℕ). out b (c.args.self.now.at + length c.args.text.now)) (copied c.args.self.now.buffer.now c.args.text.now c.args.self.now.at room))

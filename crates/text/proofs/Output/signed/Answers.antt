@@ -1,0 +1,25 @@
+-- `text::Output::signed` meets its contract: the sign where there is one, and the digits of the size after it. Assumes nothing.
+use mathlib.Core.Path.{◌≡◌, sym, ◌∙◌, ap}
+use mathlib.Core.List.{[], ◌∷◌}
+use lib.IntN.{ℤ, pos, nat_abs}
+use lib.Signed.{lt_z}
+use mir.Syntax.{w64}
+use mir.Val.{to_z, of_z}
+use mir.ValLaws.{to_z-of_z}
+use Rattle.text.specs.declared.Output.{Output}
+use Rattle.text.specs.Text.{decimal}
+use Rattle.text.specs.Put.{out, puts}
+use Rattle.text.proofs.Puts.{puts_then}
+use Rattle.text.proofs.Sign.{signed_below, signed_from_zero}
+use Rattle.text.proofs.Output.signed.Goals as goal
+use Rattle.text.proofs.Output.signed.Goals.{then-below, else-below}
+
+pub returns-clause-put : goal.returns-clause-put
+returns-clause-put c =
+    let same : to_z w64 (of_z w64 c.args.n) ≡ c.args.n = to_z-of_z w64 c.args.n c.ranges.n in
+    let size : nat_abs c.args.n ≡ c.unsigned_abs.result = sym (c.unsigned_abs.ensures.value ∙ ap nat_abs same) in
+    let sign = ap (λ (z : ℤ). lt_z z (pos 0)) (sym same) in
+    elim c.if-below.branch [
+      | then-below w ↦ rw (signed_below c.args.n (sign ∙ w.if-below.true), size) (puts_then _ _ _ _ (ap (λ (o : Output). out o.buffer.now o.at) w.self-is ∙ w.text.ensures.put) c.decimal.ensures.put)
+      | else-below w ↦ rw (signed_from_zero c.args.n (sign ∙ w.if-below.false), size) (c.decimal.ensures.put ∙ ap (λ (o : Output). puts o.buffer.now o.at (decimal c.unsigned_abs.result ∷ [])) w.self-is)
+    ]

@@ -1,9 +1,0 @@
--- `text::put_decimal` meets its contract: what the kit puts are the decimal digits. Assumes nothing.
-use mathlib.Core.Path.{◌∙◌}
-use Rattle.text.proofs.Digits.{fewest_decimal}
-use Rattle.text.proofs.put_decimal.Goals as goal
-
-pub returns : goal.returns
-returns c =
-    let n = c.args.n in
-    rw (c.decimal-count.ensures.digits ∙ fewest_decimal n c.decimal-count.result c.decimal-count.ensures.len) at c.put_text.ensures
