@@ -521,6 +521,11 @@ class Forms(Made):
         others = {"low::asked", "low::shared::handed_on", "low::open::ask_open"}
         self.assertEqual({each.function for each in said if each.reachable}, here | others)
 
+    def test_callable(self):
+        """What a closure needs to be called may be asked, at all numbers or at one."""
+        for asked in ("G.pre test 1", "(n : ℕ) → G.pre test (n + 1)"):
+            self.assertEqual(self.complained("G.IsAlwaysCallable test", asked), (0, []))
+
     def test_kept_names(self):
         """What a block brings in is not brought in for the blocks behind it."""
         root = self.repository(FORMS)
@@ -534,7 +539,8 @@ class Forms(Made):
         promise = "\n        ensures { result ≡ number_of self }\n    {\n        self.n"
         for old, new, wrong in (
             (promise, "\n    {\n        self.n", "low::Found::number can be reached, and says nothing"),
-            ("G.IsAlwaysCallable test", "G.pre test 1", "low::Seen::first can be reached, and asks more"),
+            ("G.IsAlwaysCallable test", "G.pre test 1 × (n ≤ 1)", "low::Seen::first can be reached, and asks more"),
+            ("G.IsAlwaysCallable test", "(n : ℕ) → G.pre test n → n ≤ 1", "low::Seen::first can be reached, and asks more"),
             ("requires { G.", "requires { low_enough self.now }\n        requires { G.", "low::Seen::first can be reached"),
             (".number ≡ 0 }", ".number ≤ 0 }", "low::Seen.opens can be reached, and asks more"),
             ("    items: Vec", "    pub items: Vec", "low::Sealed.small can be reached, and asks more"),

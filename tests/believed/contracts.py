@@ -8,7 +8,7 @@ from .items import Item, Items, blanked
 
 # All that a function in reach of a caller may ask: that a column is reached, and that it may call the closure it is given.
 REACHED = re.compile(r"\{\s*Reached (?:[\w.]+|\([^×⊎→↔∗]*\))\s*\}")
-CALLABLE = re.compile(r"\{\s*[A-Z]\w*\.IsAlwaysCallable [\w.]+\s*\}")
+CALLABLE = re.compile(r"\{\s*(?:\([\w ]+ : [\w ]+\) → )*[A-Z]\w*\.(?:pre|IsAlwaysCallable) [^×⊎→↔∗≡≢≤<]*\}")
 # How a type whose values a caller can write says the same of the column that they make (column/specs/Lent.antt).
 SEEN = re.compile(r"\{\s*(?:∥ Reached [\w. ]+ ∥₁|\((?:opened_of|entered_again) [\w. ]+\)\.\w+ ≡ [\w.]+)\s*\}")
 ASKING = "can_"  # how the ghost members of traits begin that say when a method may be called
