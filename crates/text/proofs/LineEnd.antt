@@ -1,47 +1,37 @@
 -- Where a line ends: bytes without a newline are passed over, and the lines of a text from a place on.
 -- Assumes nothing.
-use mathlib.Core.Path.{◌≡◌, refl, sym, ◌∙◌, ap}
-use mathlib.Core.Bool.{Bool, true, false, cond, ◌||◌, false≢true}
+use mathlib.Core.Path.{◌≡◌, refl, ap}
+use mathlib.Core.Bool.{Bool, true, false, cond}
 use mathlib.Core.List.{List, [], ◌∷◌}
 use Prim.Native.Nat.{ℕ, zero, suc, ◌+◌, ◌-◌, ◌≤◌, ◌<◌}
-use native.Mathlib.Nat.{add-zero, not-suc-le-zero}
+use native.Mathlib.Nat.{not-suc-le-zero}
 use native.Mathlib.Omega.{arith}
 use lib.Dec.{eqb}
-use lib.ListN.{length, take, drop, get_or, length-drop, drop_of_length-le}
-use lib.Seq.{drop-cons, drop-drop}
+use lib.ListN.{length, take, drop, get_or, length-drop}
+use lib.Seq.{drop-drop}
 use Rattle.text.specs.Lines.{newline, index_of, index_after, line, rest, with_byte, split, end_from}
-use Rattle.text.specs.inner.LineEnd.{newline_within}
 
--- of two tests neither holds
-neither : (s t : Bool) → s || t ≡ false → (s ≡ false) × (t ≡ false)
-neither false t e = (refl, e)
-neither true t e = absurd (false≢true (sym e))
+-- where no byte is a newline, none is found
+pub index_absent : (bs : List ℕ) → ((k : ℕ) → k < length bs → eqb (get_or bs k 0) newline ≡ true → ⊥) → index_of newline bs ≡ length bs
+unfolding index_of index_after
+index_absent [] h = refl
+index_absent (b ∷ bs) h = go (eqb b newline) refl (index_absent bs (λ k l. h (suc k) (omega arith)))
+  where
+    go : (t : Bool) → eqb b newline ≡ t → index_of newline bs ≡ length bs → index_after t (index_of newline bs) ≡ suc (length bs)
+    go true e i = absurd (h 0 (omega arith) e)
+    go false e i = ap suc i
 
--- a byte that is no newline is passed over
-pub one_passed : (text : List ℕ) (at : ℕ) → at < length text → eqb (get_or text at 0) newline ≡ false → end_from text at ≡ end_from text (suc at)
-unfolding index_of index_after end_from
-one_passed text at h e =
-    let m : index_of newline (drop at text) ≡ suc (index_of newline (drop (suc at) text)) = rw (drop-cons text at 0, e) in
-    omega arith
-
--- the line ends where a newline stands
-pub ends_here : (text : List ℕ) (at : ℕ) → at < length text → eqb (get_or text at 0) newline ≡ true → at ≡ end_from text at
-unfolding index_of index_after end_from
-ends_here text at h e =
-    let m : index_of newline (drop at text) ≡ 0 = rw (drop-cons text at 0, e) in
-    omega arith
-
--- from the end of the text on there is nothing to look at
-pub ends_none : (text : List ℕ) (at : ℕ) → length text ≤ at → at ≡ end_from text at
-unfolding index_of end_from
-ends_none text at h = rw (drop_of_length-le text {i = at} h) (sym (add-zero at))
-
--- a byte and so many after it, none of them a newline, are passed over
-pub passed : (text : List ℕ) (at n : ℕ) → at + n < length text → newline_within text at n ≡ false → end_from text at ≡ end_from text (at + suc n)
-passed text at zero h e = one_passed text at (omega arith) e ∙ ap (end_from text) (omega arith)
-passed text at (suc n) h e =
-    let no = neither (newline_within text at n) (eqb (get_or text (at + suc n) 0) newline) e in
-    passed text at n (omega arith) no.0 ∙ (one_passed text (at + suc n) (omega arith) no.1 ∙ ap (end_from text) (omega arith))
+-- the first newline is found
+pub index_first : (bs : List ℕ) (i : ℕ) → i < length bs → eqb (get_or bs i 0) newline ≡ true → ((k : ℕ) → k < i → eqb (get_or bs k 0) newline ≡ true → ⊥)
+    → index_of newline bs ≡ i
+unfolding index_of index_after
+index_first [] i l e h = absurd (omega arith)
+index_first (b ∷ bs) zero l e h = rw e
+index_first (b ∷ bs) (suc i) l e h = go (eqb b newline) refl (index_first bs i (omega arith) e (λ k l. h (suc k) (omega arith)))
+  where
+    go : (t : Bool) → eqb b newline ≡ t → index_of newline bs ≡ i → index_after t (index_of newline bs) ≡ suc i
+    go true e j = absurd (h 0 (omega arith) e)
+    go false e j = ap suc j
 
 -- what is found in a text from a place on is found within it
 index_most : (bs : List ℕ) → index_of newline bs ≤ length bs

@@ -3,4 +3,3 @@ pub mod Text
 pub mod Lines
 pub mod Put
 pub mod theorems
-pub mod inner

@@ -1,25 +1,31 @@
--- `text::scan::line_end` meets its contract: the end of the line is the same from here as from the start. Assumes nothing.
-use mathlib.Core.Path.{refl, sym, ◌∙◌}
+-- `text::scan::line_end` meets its contract: what is found in the rest of the text is found from the place on. Assumes nothing.
+use mathlib.Core.Path.{◌≡◌, sym, ◌∙◌, ap}
+use mathlib.Core.List.{List}
+use Prim.Native.Nat.{ℕ, ◌+◌, ◌-◌}
+use native.Mathlib.Nat.{add-zero}
+use Rattle.std.proofs.Common.{zero-le}
 use native.Mathlib.Omega.{arith}
-use borrow.Author.Rules.{rules}
-use Rattle.text.proofs.LineEnd.{ends_none, passed}
+use lib.ListN.{length, take, drop, drop_of_length-le, length-drop}
+use lib.Seq.{take_all}
+use Rattle.std.specs.Prelude.{Option, Some, None, unwrap_or}
+use Rattle.memchr.specs.Find.{IsFirstByte, is_byte}
+use Rattle.text.specs.Lines.{newline, index_of, end_from}
+use Rattle.text.proofs.LineEnd.{index_absent, index_first}
 use Rattle.text.proofs.scan.line_end.Goals as goal
 
--- past the end there is nothing to look at
+-- what the library finds is the first newline
+found : (bs : List ℕ) (r : Option ℕ) → IsFirstByte (is_byte newline) bs r → unwrap_or r (length bs) ≡ index_of newline bs
+found bs None h = sym (index_absent bs (λ k l e. h k zero-le l e))
+found bs (Some i) h = sym (index_first bs i h.0.high h.1 (λ k l e. h.0.before k zero-le l e))
+
 pub returns-then-from-text : goal.returns-then-from-text
-returns-then-from-text c = ends_none _ _ (omega arith)
-
-pub loop-at-init : goal.loop-at-init
-loop-at-init c = (refl, search rules)
-
-pub returns-then-has_newline : goal.returns-then-has_newline
-returns-then-has_newline c = c.find_newline.ensures ∙ sym c.loop-at.invariant.0
-
-pub loop-at-preserved : goal.loop-at-preserved
-loop-at-preserved c =
-    let l = c.loop-at in
-    let text = c.args.text.now in
-    (l.invariant.0 ∙ passed text l.at 7 (search rules) (sym c.has_newline.ensures ∙ c.if-has_newline.false), search rules)
+unfolding end_from index_of
+returns-then-from-text c = rw (drop_of_length-le c.args.text.now {i = c.args.from} (omega arith)) (sym (add-zero c.args.from))
 
 pub returns : goal.returns
-returns c = c.find_newline-2.ensures ∙ sym c.loop-at.invariant.0
+unfolding end_from
+returns c =
+    let text = c.args.text.now in
+    let from = c.args.from in
+    let rest : take (length text - from) (drop from text) ≡ drop from text = take_all (length text - from) (drop from text) (omega (arith, length-drop from text)) in
+    ap (λ (n : ℕ). from + n) (c.unwrap_or.ensures ∙ (found _ c.memchr.result c.memchr.ensures ∙ ap (index_of newline) rest))

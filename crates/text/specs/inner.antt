@@ -1,2 +1,0 @@
--- What only private functions ask, and laws say; no promise reaches it.
-pub mod LineEnd
