@@ -3,7 +3,8 @@ two of them, and README is no longer than it may be.
 
     document_names.py         fails with a line for each name that is not there, and for each sentence that is there twice
 
-A name in backticks must be declared somewhere in the repository: a comment, or a word in a text, does not count.
+A name in backticks must be declared somewhere in the repository: a comment, or a word in a text, does not count. In the
+records of what was changed only commands, links and sentences are looked at.
 """
 
 import sys
@@ -53,6 +54,7 @@ NAME = re.compile(rf"{OPERATOR}|[^\W\d][\w·²-]*(?:'|ℤ)?")
 MADE = re.compile(r"(?:crates/(\w+)/)?out(?:/(?:(\w+)|lib(\w+)\.a))?")  # where a program or a static library is built
 CODE = re.compile(r"`([^`]+)`")
 FILE_OF_A_CRATE = re.compile(r"\w+/(?:specs|proofs|src)/.*\.(?:antt|rt)")
+RECORDS = ("docs/PORT.md", "docs/DESIGN-PASS.md")  # what was changed at a time, by the names of then: they need not be there
 LONG = 60  # from this many characters on a sentence is looked for in other documents
 README_LINES = 130  # the most that README may have
 
@@ -180,13 +182,16 @@ def wrong_in_row(root, cells):
 
 
 def wrong_in_line(root, document, line, names):
-    """What a line of a document names that is not there."""
+    """What a line of a document names that is not there; in a record none is looked for."""
+    record = document.relative_to(root).as_posix() in RECORDS
     if line.startswith("    "):
-        words = re.split(r"[\s()|&<>'\"$=;,]+", line)
+        words = [] if record else re.split(r"[\s()|&<>'\"$=;,]+", line)
         paths = [word for word in words if PATH.search(word) and not word.startswith(("-", "/"))]
         missing = [path for path in paths if not is_there(root, path)] + wrong_commands(root, line)
         return [f"no {each}" for each in missing]
     said = [f"no {link}" for link in re.findall(r"\]\(([^)#]+)\)", line) if not (document.parent / link).exists()]
+    if record:
+        return said + [f"no `{name}`" for code in CODE.findall(line) for name in wrong_commands(root, code)]
     said += [f"no `{name}`" for code in CODE.findall(line) for name in missing_in(root, code, names)]
     said += ["a text in backticks goes over the end of the line"] if line.count("`") % 2 else []
     return said + (wrong_in_row(root, line.split("|")[1:-1]) if line.startswith("|") else [])

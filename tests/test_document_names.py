@@ -134,6 +134,13 @@ class Documents(unittest.TestCase):
             status, printed = self.look(text=README + f"\n    {line}\n")
             self.assertEqual((status, printed[0]), (1, f"README.md:{AFTER}: {said}"))
 
+    def test_records(self):
+        """A record may have the names of its time, but no command or link that is not there."""
+        for place in document_names.RECORDS:
+            self.assertEqual(self.look(place, "# Then\n\n`gone_by_now` was `low::old_name`, in\n\n    low/specs/Gone.antt\n")[0], 0)
+            status, printed = self.look(place, "# Then\n\n`rt lib lower` and [a page](NONE.md)\n")
+            self.assertEqual((status, len(printed)), (1, 3), printed)
+
     def test_rows(self):
         """A definition or a law that is not in the file that its row names."""
         for old, new in (("`told`, `low/specs", "`asked`, `low/specs"), ("| `told-law` |", "| `told` |")):
