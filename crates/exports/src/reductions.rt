@@ -4,7 +4,7 @@ ghost use Rattle.reduction.specs.Share.{dm²};
 ghost use Rattle.reduction.specs.Reduced.{reduced_of};
 ghost use Rattle.exports.specs.Exported.{shown_reduced};
 
-use reduction::InfluenceArea;
+use reduction::{Carried, InfluenceArea};
 
 // The reduced load: the paper's number, 0 where none holds, and R, which is 0 where it is refused.
 #[repr(C)]
@@ -15,6 +15,7 @@ pub struct BungeroReduced {
 }
 
 // The reduced load R of a line, at n floors and an influence area in dm².
+#[tactic(auto, unfolding(crate::specs::Exported::shown_reduced, refusal::specs::Said::said))]
 #[unsafe(no_mangle)]
 pub extern "C" fn bungero_reduced_load(
     load: u64,
@@ -24,9 +25,11 @@ pub extern "C" fn bungero_reduced_load(
 ) -> BungeroReduced
     ensures { result ≡ shown_reduced (reduced_of load class floors (dm² influence)) }
 {
-    let x = InfluenceArea(influence);
-    let answer = reduction::reduced_load(load, class, floors, x);
-    match answer {
+    let carried = Carried {
+        floors: floors,
+        influence: InfluenceArea(influence),
+    };
+    match carried.reduced_load(load, class) {
         Ok(reduced) => BungeroReduced {
             number: 0,
             reduced: reduced,

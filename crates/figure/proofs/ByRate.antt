@@ -1,7 +1,8 @@
 -- The reduced load of a line by the rate of its share, and which rate that is.
 -- Assumes nothing.
-use mathlib.Core.Path.{◌≡◌, sym, ◌∙◌, ap}
-use mathlib.Core.Bool.{Bool, true, false, cond, ◌&&◌}
+use Rattle.std.specs.Prelude.{Some}
+use mathlib.Core.Path.{◌≡◌, refl, sym, ◌∙◌, ap}
+use mathlib.Core.Bool.{Bool, true, false, ◌&&◌}
 use Prim.Native.Nat.{ℕ, ◌+◌, ◌*◌, ◌/◌, ◌≤◌, ◌<◌}
 use native.Mathlib.Nat.{mul_assoc, mul_comm, mul-add, mul-le-mul}
 use native.Mathlib.Omega.{arith}
@@ -10,14 +11,16 @@ use borrow.Author.Tests.{le-leb, lt-leb, eqb-true, eqb-false, eq-eqb, ne_eqb}
 use Rattle.lists.proofs.Tests.{cases, same_test}
 use Rattle.member.specs.Line.{is_formula}
 use Rattle.reduction.specs.declared.InfluenceArea.{InfluenceArea}
-use Rattle.reduction.specs.declared.share.Share.TheVariants.{Twentieths}
-use Rattle.reduction.specs.Share.{clamped_of, heavy_twentieths, other_twentieths, share_of}
+use Rattle.reduction.specs.declared.share.Share.{Share}
+use Rattle.reduction.specs.declared.share.Share.TheVariants.{Twentieths, Root}
+use Rattle.reduction.specs.Share.{clamped_of, formula_share, heavy_twentieths, other_twentieths, share_of}
 use Rattle.reduction.specs.Reduced.{reduced}
-use Rattle.reduction.specs.Scale.{scale_of}
+use Rattle.reduction.specs.Scale.{root_scale, scale_of}
+use Rattle.reduction.specs.inner.ShareBounds.{Fit}
 use Rattle.reduction.proofs.Shares.{other_within}
-use Rattle.reduction.proofs.Twentieths.{share_other, share_clamped, clamped_most, twentieths_least}
-use Rattle.reduction.proofs.Fits.{formula_class}
-use Rattle.reduction.proofs.Scales.{Scaled, line_scaled, scale_within}
+use Rattle.reduction.proofs.Twentieths.{share_formula, share_other, clamped_is, twentieths_least}
+use Rattle.reduction.proofs.Fits.{formula_class, formula_fits, share_fits, fit_twentieths, fit_root, fit_load}
+use Rattle.reduction.proofs.Scales.{Scaled, root_scaled, scale_most, root_is}
 use Rattle.column.specs.declared.Line.{Line}
 use Rattle.column.specs.Line.{unpacked, key_of}
 use Rattle.column.specs.inner.Sound.{InLimits}
@@ -25,7 +28,7 @@ use Rattle.figure.specs.declared.rates.Rate.{Rate}
 use Rattle.figure.specs.declared.rates.Shares.{Shares}
 use Rattle.figure.specs.Carried.{is_formula_line}
 use Rattle.figure.specs.Figure.{line_figure}
-use Rattle.figure.specs.inner.Rates.{twentieths_rate, root_rate, rate_of, formula_load, figure_by}
+use Rattle.figure.specs.inner.Rates.{twentieths_rate, root_rate, share_rate, rate_of, formula_load, figure_by}
 use Rattle.figure.proofs.Most.{line_most}
 
 -- what a rate gives for a load, and that it is not in doubt
@@ -53,15 +56,19 @@ scaled_by s load r h sure =
     let one : by (root_rate s) load ≡ low / 2097152 = omega (arith, times) in
     one ∙ h (omega (arith, times, sure))
 
+-- a load that has a share, by the share's rate
+share_by : (s : Share) (load : ℕ) → Fit s load → Sure (share_rate s) load → by (share_rate s) load ≡ reduced s load
+unfolding share_rate
+share_by (Twentieths k) load fit sure = twentieths_by k load (fit_twentieths {k = k} fit refl).0 (fit_load fit)
+share_by (Root x) load fit sure = scaled_by (root_scale x) load _ (root_scaled x load fit) sure
+
 -- a formula line's load by the formula's rate
-pub formula_by : (n load : ℕ) (x : InfluenceArea) → 1 ≤ load → load ≤ 5000 → let r = rate_of (clamped_of n x) (scale_of n x) in
-    Sure r load → by r load ≡ reduced (share_of load 1 n x) load
+pub formula_by : (n load : ℕ) (x : InfluenceArea) → load ≤ 5000 → Sure (rate_of n x) load → by (rate_of n x) load ≡ reduced (share_of load 1 n x) load
 unfolding rate_of is_formula
-formula_by n load x some small =
-    let formula : is_formula load 1 ≡ true = le-leb load 5000 small in
-    cases (λ (b : Bool). let r = cond b (root_rate (scale_of n x)) (twentieths_rate (clamped_of n x)) in Sure r load → by r load ≡ reduced (share_of load 1 n x) load) (eqb (clamped_of n x) 0)
-    (λ e. scaled_by (scale_of n x) load _ (line_scaled load 1 n x formula (eqb-true (clamped_of n x) 0 e)))
-    (λ e sure. rw (share_clamped load 1 n x formula (omega (arith, eqb-false (clamped_of n x) 0 e))) (twentieths_by (clamped_of n x) load (clamped_most n x) (omega arith)))
+formula_by n load x small sure =
+    let share : share_of load 1 n x ≡ formula_share n x = share_formula load 1 n x (le-leb load 5000 small) in
+    let fits = rw share at (share_fits load 1 n x (omega arith)) in
+    rw share (share_by (formula_share n x) load fits sure)
 
 -- no rate is larger than this, so that no product passes 64 bits
 pub record Small (r : Rate) : Type 0 where
@@ -73,12 +80,25 @@ pub twentieths_small : (k : ℕ) → k ≤ 20 → Small (twentieths_rate k)
 unfolding twentieths_rate
 twentieths_small k h = record { times = omega arith; plus = omega arith; doubt = omega arith }
 
-pub formula_small : (n : ℕ) (x : InfluenceArea) → Small (rate_of (clamped_of n x) (scale_of n x))
-unfolding rate_of root_rate
-formula_small n x =
-    let s = scale_within n x in
-    cases (λ (b : Bool). Small (cond b (root_rate (scale_of n x)) (twentieths_rate (clamped_of n x)))) (eqb (clamped_of n x) 0)
-    (λ e. record { times = omega arith; plus = omega arith; doubt = omega arith }) (λ e. twentieths_small (clamped_of n x) (clamped_most n x))
+share_small : (s : Share) → Fit s 1 → Small (share_rate s)
+unfolding share_rate root_rate
+share_small (Twentieths k) fit = twentieths_small k (fit_twentieths {k = k} fit refl).0
+share_small (Root x) fit =
+    let most = scale_most x (fit_root {x = x} fit refl).0 in
+    record { times = omega (arith, most); plus = omega arith; doubt = omega arith }
+
+pub formula_small : (n : ℕ) (x : InfluenceArea) → Small (rate_of n x)
+unfolding rate_of
+formula_small n x = share_small (formula_share n x) (formula_fits n x)
+
+-- the rate is that of the twentieths where the share is clamped, and else the root's by its scale
+pub rate_clamped : (n : ℕ) (x : InfluenceArea) {k : ℕ} → clamped_of n x ≡ Some k → twentieths_rate k ≡ rate_of n x
+unfolding rate_of share_rate
+rate_clamped n x e = rw (clamped_is n x e)
+
+pub rate_root : (n : ℕ) (x : InfluenceArea) {scale : ℕ} → scale_of n x ≡ Some scale → root_rate scale ≡ rate_of n x
+unfolding rate_of share_rate
+rate_root n x e = let (y, share, is) = root_is n x e in ap root_rate is ∙ ap share_rate (sym share)
 
 -- a key is the class and the load in their order
 module _ (number : ℕ) (ok : InLimits (unpacked number)) where

@@ -1,10 +1,13 @@
 -- The figure of lines kept where every line has the share that it had above.
 -- Assumes nothing.
+use Rattle.std.specs.Prelude.{Option, None, Some, IsSome}
+use Rattle.std.specs.Option.{option_eq}
 use mathlib.Core.Path.{◌≡◌, refl, sym, ◌∙◌, ap, fun_ext, subst⁻¹}
-use mathlib.Core.Bool.{Bool, cond}
-use Prim.Native.Nat.{ℕ, ◌≤◌, ◌<◌}
+use mathlib.Core.Bool.{Bool, true, cond, false≢true}
+use Prim.Native.Nat.{ℕ, ◌≤◌}
 use native.Mathlib.Omega.{arith}
-use borrow.Author.Tests.{lt-leb}
+use lib.Dec.{eqb}
+use borrow.Author.Tests.{lt-leb, eqb-true}
 use Rattle.lists.proofs.Tests.{cases}
 use Rattle.reduction.specs.declared.InfluenceArea.{InfluenceArea}
 use Rattle.reduction.specs.declared.share.Share.TheVariants.{Twentieths}
@@ -26,17 +29,24 @@ unfolding other_twentieths one_floor
 other_below class n h = rw (lt-leb n 1 h)
 
 -- from the second floor on, where the formula lines' share is clamped, a line's share has neither n nor X
-share_below : (s : Shares) (l : Line) → Shared s → 2 ≤ s.floors → 0 < s.clamped
-    → share_of l.load l.class s.floors s.influence ≡ Twentieths (cond (is_formula_line l) s.clamped (other_twentieths l.class 2))
+share_below : (s : Shares) (l : Line) {k : ℕ} → Shared s → 2 ≤ s.floors → s.clamped ≡ Some k
+    → share_of l.load l.class s.floors s.influence ≡ Twentieths (cond (is_formula_line l) k (other_twentieths l.class 2))
 unfolding shares_at is_formula_line
-share_below s l k h some =
-    let clamped = ap (λ (t : Shares). t.clamped) k in
-    cases (λ (b : Bool). share_of l.load l.class s.floors s.influence ≡ Twentieths (cond b s.clamped (other_twentieths l.class 2))) (is_formula_line l)
-    (λ q. share_clamped l.load l.class s.floors s.influence q (omega arith) ∙ ap Twentieths (sym clamped))
+share_below s l {k} shared h some =
+    let clamped = sym (ap (λ (t : Shares). t.clamped) shared) ∙ some in
+    cases (λ (b : Bool). share_of l.load l.class s.floors s.influence ≡ Twentieths (cond b k (other_twentieths l.class 2))) (is_formula_line l)
+    (λ q. share_clamped l.load l.class s.floors s.influence q clamped)
     (λ q. share_other l.load l.class s.floors s.influence q ∙ ap Twentieths (other_below l.class s.floors h))
 
+both : (a b : Option ℕ) → IsSome b → option_eq eqb a b ≡ true → (k : ℕ) × (a ≡ Some k) × (b ≡ Some k)
+both (Some j) (Some k) h e = (k, ap Some (eqb-true j k e), refl)
+both None (Some k) h e = absurd (false≢true e)
+both a None h e = absurd (false≢true h)
+
 -- so where it is clamped alike, the figure of each line stays
-pub figure_kept : (s t : Shares) → Shared s → Shared t → 2 ≤ s.floors → s.floors ≤ t.floors → 0 < t.clamped → s.clamped ≡ t.clamped → figure_by s ≡ figure_by t
+pub figure_kept : (s t : Shares) → Shared s → Shared t → 2 ≤ s.floors → s.floors ≤ t.floors
+    → IsSome t.clamped → option_eq eqb s.clamped t.clamped ≡ true → figure_by s ≡ figure_by t
 unfolding line_figure
-figure_kept s t h k two more some e =
-    fun_ext (λ l. rw (share_below s l h two (omega arith), share_below t l k (omega arith) some, e))
+figure_kept s t h k two more some alike =
+    let (at, before, here) = both s.clamped t.clamped some alike in
+    fun_ext (λ l. rw (share_below s l h two before, share_below t l k (omega arith) here))

@@ -47,7 +47,7 @@ fn figure_before(held: &Places, above: Descent, end: usize, here: Shares) -> u64
     ensures { SumOf (figure_by here) 10000000000 held.now 0 end result }
 {
     let before = above.shares;
-    if 2 <= before.floors && 0 < here.clamped && before.clamped == here.clamped {
+    if 2 <= before.floors && here.clamped.is_some() && before.clamped == here.clamped {
         return above.figure + sums::figure_between(held, above.lines, end, here);
     }
     sums::figure_between(held, 0, end, here)

@@ -2,7 +2,6 @@
 ghost use Rattle.std.specs.Prelude.{◌≡◌, true, ◌≤◌};
 ghost use Rattle.member.specs.Between.{between};
 ghost use Rattle.reduction.specs.Share.{other_twentieths};
-ghost use Rattle.reduction.specs.Scale.{scale_of};
 ghost use Rattle.column.specs.Line.{unpacked};
 ghost use Rattle.column.specs.inner.Sound.{InLimits};
 ghost use Rattle.figure.specs.Carried.{is_formula_line, influence_from};
@@ -10,7 +9,7 @@ ghost use Rattle.figure.specs.inner.Rates.{twentieths_rate, rate_of, shares_at, 
 
 use column::Member;
 use member::TributaryArea;
-use reduction::InfluenceArea;
+use reduction::{Carried, InfluenceArea};
 
 // A share in units of 2⁻²⁶: of a load it is (load × times + plus) / 2²⁶, rounded down, unless load × doubt
 // more would give another number.
@@ -22,12 +21,12 @@ pub struct Rate {
 }
 
 // What the reduced loads of all lines at a floor follow from: n, X, the twentieths of the formula lines'
-// share where it is clamped, 0 where it is the root, their rate, and `times` of class 2.
+// share where it is clamped, their rate, and `times` of class 2.
 #[derive(Clone, Copy)]
 pub struct Shares {
     pub floors: u64,
     pub influence: InfluenceArea,
-    pub clamped: u64,
+    pub clamped: Option<u64>,
     pub formula: Rate,
     pub other: u64,
 }
@@ -80,14 +79,13 @@ fn twentieths_rate(twentieths: u64) -> Rate
 
 // The rate of the formula lines' share. The root is in doubt by one of its scale.
 #[tactic(auto, unfolding(crate::specs::inner::Rates::rate_of, crate::specs::inner::Rates::root_rate))]
-fn formula_rate(clamped: u64, floors: u64, x: InfluenceArea) -> Rate
-    requires { clamped ≤ 20 }
-    ensures { result ≡ rate_of clamped (scale_of floors x) }
+fn formula_rate(carried: Carried) -> Rate
+    ensures { result ≡ rate_of carried.floors carried.influence }
 {
-    if 0 < clamped {
-        return twentieths_rate(clamped);
+    if let Some(twentieths) = carried.clamped_twentieths() {
+        return twentieths_rate(twentieths);
     }
-    let scale = reduction::root_scale(floors, x);
+    let scale = carried.root_scale().unwrap();
     Rate {
         times: (SCALE_UNIT + scale) * SCALE_WORTH,
         plus: SCALE_ROUND_UP,
@@ -100,14 +98,13 @@ pub fn shares_at(member: Member, floors: u64, area: TributaryArea) -> Shares
     requires { (between 1 12 member.code ≡ true) × (area.0 ≤ 51200000) }
     ensures { result ≡ shares_at floors (influence_from member area.0) }
 {
-    let x = influence_of(member, area);
-    let clamped = reduction::clamped_twentieths(floors, x);
-    let formula = formula_rate(clamped, floors, x);
+    let influence = influence_of(member, area);
+    let carried = Carried { floors, influence };
     Shares {
         floors: floors,
-        influence: x,
-        clamped: clamped,
-        formula: formula,
+        influence: influence,
+        clamped: carried.clamped_twentieths(),
+        formula: formula_rate(carried),
         other: reduction::heavy_twentieths(floors) * TWENTIETH,
     }
 }
@@ -117,7 +114,11 @@ fn searched_load(load: u64, shares: Shares) -> u64
     requires { (1 ≤ load) × (load ≤ 5000) }
     ensures { result ≡ formula_load shares load }
 {
-    reduction::reduced_load(load, 1, shares.floors, shares.influence).unwrap()
+    let carried = Carried {
+        floors: shares.floors,
+        influence: shares.influence,
+    };
+    carried.reduced_load(load, 1).unwrap()
 }
 
 // R of a formula line.

@@ -2,6 +2,7 @@
 pub mod Squares
 pub mod Least
 pub mod Root
+pub mod Classes
 pub mod Shares
 pub mod Reduced
 pub mod Twentieths

@@ -1,6 +1,7 @@
 -- The scale is the root's, rounded down; and where it and one more give the same load, rounded up, that is the reduced load.
 -- Assumes nothing.
-use mathlib.Core.Path.{◌≡◌, refl, sym, ◌∙◌, ap}
+use Rattle.std.specs.Prelude.{None, Some, IsSome}
+use mathlib.Core.Path.{◌≡◌, refl, sym, ◌∙◌, ap, subst⁻¹}
 use mathlib.Core.Bool.{Bool, true, and-eq-true_iff}
 use Prim.Native.Nat.{ℕ, zero, suc, ◌+◌, ◌*◌, ◌-◌, ◌/◌, ◌^◌, ◌≤◌, ◌<◌}
 use native.Mathlib.Nat.{mul_assoc, mul_comm, add-mul, mul-zero, mul-le-mul, mul-le-mul_left, mul-le-mul_right, le_of_mul-le-mul_left}
@@ -12,17 +13,16 @@ use lib.Dec.{ltb}
 use borrow.Author.Tests.{leb-true, le-leb, ltb-true, ltb-false, lt-ltb}
 use Rattle.reduction.specs.declared.InfluenceArea.{InfluenceArea}
 use Rattle.reduction.specs.declared.share.Share.{Share}
-use Rattle.reduction.specs.declared.share.Share.TheVariants.{Root}
+use Rattle.reduction.specs.declared.share.Share.TheVariants.{Twentieths, Root}
 use Rattle.member.specs.Line.{is_formula}
 use Rattle.reduction.specs.Least.{sq}
-use Rattle.reduction.specs.Share.{clamped_share, clamped_of, share_of}
+use Rattle.reduction.specs.Share.{clamped_share, clamped_of, formula_share, share_of}
 use Rattle.reduction.specs.Reduced.{reaches, reduced}
 use Rattle.reduction.specs.Scale.{root_scale, share_scale, scale_of}
 use Rattle.reduction.specs.inner.ShareBounds.{Fit}
 use Rattle.reduction.proofs.Squares.{sq_le, sq_le⁻¹, sq_lt⁻¹, sq_mul, under_square}
 use Rattle.reduction.proofs.Least.{found, none}
 use Rattle.reduction.proofs.Root.{regroup}
-use Rattle.reduction.proofs.Shares.{formula_cases, least_within}
 use Rattle.reduction.proofs.Twentieths.{share_formula}
 use Rattle.reduction.proofs.Fits.{formula_load_lem, formula_fits, share_fits, fit_root, fit_at_most, fit_reaches}
 
@@ -126,22 +126,37 @@ root_scaled x load fit same =
     (omega (arith, reaches_scale x load some (reduced (Root x) load) (fit_reaches fit)))
     (fit_at_most fit (next_reaches x load some _ (omega arith)))
 
+unclamped : (s : Share) → clamped_share s ≡ None → IsSome (share_scale s)
+unfolding clamped_share share_scale
+unclamped (Twentieths k) e = cc
+unclamped (Root x) e = refl
+
+root_as : (s : Share) {scale : ℕ} → share_scale s ≡ Some scale → (x : InfluenceArea) × (s ≡ Root x) × (scale ≡ root_scale x)
+unfolding share_scale
+root_as (Twentieths k) e = cc
+root_as (Root x) e = (x, refl, cc)
+
+-- the formula lines have a scale where their share is the root
+pub root_is : (n : ℕ) (x : InfluenceArea) {scale : ℕ} → scale_of n x ≡ Some scale
+    → (y : InfluenceArea) × (formula_share n x ≡ Root y) × (scale ≡ root_scale y)
+unfolding scale_of
+root_is n x e = root_as (formula_share n x) e
+
+pub root_where : (n : ℕ) (x : InfluenceArea) → clamped_of n x ≡ None → IsSome (scale_of n x)
+unfolding clamped_of scale_of
+root_where n x e = unclamped (formula_share n x) e
+
 -- and so that of a formula line where its share is not clamped
-pub line_scaled : (load class n : ℕ) (x : InfluenceArea) → is_formula load class ≡ true → clamped_of n x ≡ 0
-    → Scaled (scale_of n x) load (reduced (share_of load class n x) load)
-unfolding clamped_of clamped_share scale_of share_scale
-line_scaled load class n x e =
-    let same = share_formula load class n x e in
-    rw same
-    (formula_cases (λ (s : Share). Fit s load → clamped_share s ≡ 0 → Scaled (share_scale s) load (reduced s load)) n x
-    (λ _ _ h. absurd (omega arith))
-    (λ _ _ _ h. absurd (omega (arith, least_within n)))
-    (λ _ _ fit _. root_scaled x load fit)
-    (rw same at (share_fits load class n x (omega (arith, formula_load_lem load class e)))))
+pub line_scaled : (load class n : ℕ) (x : InfluenceArea) {scale : ℕ} → is_formula load class ≡ true → scale_of n x ≡ Some scale
+    → Scaled scale load (reduced (share_of load class n x) load)
+line_scaled load class n x {scale} f e =
+    let (y, root, is) = root_is n x e in
+    let share : share_of load class n x ≡ Root y = share_formula load class n x f ∙ root in
+    let fits = rw share at (share_fits load class n x (omega (arith, formula_load_lem load class f))) in
+    subst⁻¹ (λ (s : ℕ). Scaled s load (reduced (share_of load class n x) load)) is (rw share (root_scaled y load fits))
 
 -- no scale of the formula lines is larger
-pub scale_within : (n : ℕ) (x : InfluenceArea) → scale_of n x ≤ 1572863
-unfolding scale_of share_scale
-scale_within n x =
-    formula_cases (λ (s : Share). Fit s 1 → share_scale s ≤ 1572863) n x (λ _ _. omega arith) (λ _ _ _. omega arith)
-    (λ _ _ fit. scale_most x (fit_root fit refl).0) (formula_fits n x)
+pub scale_within : (n : ℕ) (x : InfluenceArea) {scale : ℕ} → scale_of n x ≡ Some scale → scale ≤ 1572863
+scale_within n x {scale} e =
+    let (y, root, is) = root_is n x e in
+    omega (arith, is, scale_most y (fit_root (formula_fits n x) root).0)

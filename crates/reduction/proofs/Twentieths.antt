@@ -1,8 +1,9 @@
 -- Shares of so many twentieths: which lines have one, and what it comes to, rounded up.
 -- Assumes nothing.
-use mathlib.Core.Path.{◌≡◌, refl}
+use Rattle.std.specs.Prelude.{Some}
+use mathlib.Core.Path.{◌≡◌, ◌∙◌}
 use mathlib.Core.Bool.{true, false}
-use Prim.Native.Nat.{ℕ, ◌+◌, ◌*◌, ◌/◌, ◌≤◌, ◌<◌}
+use Prim.Native.Nat.{ℕ, ◌+◌, ◌*◌, ◌/◌, ◌≤◌}
 use native.Mathlib.Nat.{le_antisymm}
 use native.Mathlib.Omega.{arith}
 use borrow.Author.Tests.{leb-true, le-leb}
@@ -27,25 +28,24 @@ pub share_other : (load class n : ℕ) (x : InfluenceArea) → is_formula load c
 unfolding share_of
 share_other load class n x e = rw e
 
-clamped_as : (s : Share) → 0 < clamped_share s → s ≡ Twentieths (clamped_share s)
+clamped_as : (s : Share) {k : ℕ} → clamped_share s ≡ Some k → s ≡ Twentieths k
 unfolding clamped_share
-clamped_as (Twentieths k) h = refl
-clamped_as (Root x) h = absurd (omega arith)
+clamped_as (Twentieths k) e = cc
+clamped_as (Root x) e = cc
 
--- and so has a formula line where its share is clamped
-pub share_clamped : (load class n : ℕ) (x : InfluenceArea) → is_formula load class ≡ true → 0 < clamped_of n x
-    → share_of load class n x ≡ Twentieths (clamped_of n x)
-unfolding share_of clamped_of
-share_clamped load class n x e h = rw e (clamped_as (formula_share n x) h)
-
-clamped_one : (s : Share) → AtMostOne s → clamped_share s ≤ 20
-unfolding clamped_share AtMostOne
-clamped_one (Twentieths k) h = h
-clamped_one (Root x) h = omega arith
-
-pub clamped_most : (n : ℕ) (x : InfluenceArea) → clamped_of n x ≤ 20
+-- where the formula lines' share is clamped, it is so many twentieths, at most 20
+pub clamped_is : (n : ℕ) (x : InfluenceArea) {k : ℕ} → clamped_of n x ≡ Some k → formula_share n x ≡ Twentieths k
 unfolding clamped_of
-clamped_most n x = clamped_one (formula_share n x) (formula_at_most_one n x)
+clamped_is n x e = clamped_as (formula_share n x) e
+
+pub clamped_most : (n : ℕ) (x : InfluenceArea) {k : ℕ} → clamped_of n x ≡ Some k → k ≤ 20
+unfolding AtMostOne
+clamped_most n x e = rw (clamped_is n x e) at (formula_at_most_one n x)
+
+-- and so has a formula line
+pub share_clamped : (load class n : ℕ) (x : InfluenceArea) {k : ℕ} → is_formula load class ≡ true → clamped_of n x ≡ Some k
+    → share_of load class n x ≡ Twentieths k
+share_clamped load class n x f e = share_formula load class n x f ∙ clamped_is n x e
 
 -- the least r with k × load ≤ 20 r
 pub twentieths_least : (k load : ℕ) → k ≤ 20 → reduced (Twentieths k) load ≡ (k * load + 19) / 20

@@ -1,6 +1,6 @@
 -- Paper 01, "Reduced load and figure": the share of a line. A share is so many twentieths, or 1/4 + 45.7/√X.
 -- Assumes nothing.
-use Rattle.std.specs.Prelude.{Bool, cond, ℕ, ◌*◌, ◌-◌, leb, eqb}
+use Rattle.std.specs.Prelude.{Bool, cond, Option, None, Some, ℕ, ◌*◌, ◌-◌, leb, eqb}
 use Rattle.reduction.specs.declared.InfluenceArea.{InfluenceArea}
 use Rattle.reduction.specs.declared.share.Share.{Share}
 use Rattle.reduction.specs.declared.share.Share.TheVariants.{Twentieths, Root}
@@ -34,13 +34,13 @@ formula_share n x =
     cond (root_at_least 20 x) (Twentieths 20)
     (cond (root_at_most (least_twentieths n) x) (Twentieths (least_twentieths n)) (Root x))
 
--- 01, Reduced load and figure: the twentieths of a share that has no root; 0 where it is the root
-unfoldable pub clamped_share : Share → ℕ
-clamped_share (Twentieths k) = k
-clamped_share (Root x) = 0
+-- 01, Reduced load and figure: the twentieths of a share that has no root
+unfoldable pub clamped_share : Share → Option ℕ
+clamped_share (Twentieths k) = Some k
+clamped_share (Root x) = None
 
--- 01, Reduced load and figure: where "the formula lines' share is clamped", to 1, 1/2 or 2/5: its twentieths; else 0
-unfoldable pub clamped_of : ℕ → InfluenceArea → ℕ
+-- 01, Reduced load and figure: where "the formula lines' share is clamped", to 1, 1/2 or 2/5: its twentieths
+unfoldable pub clamped_of : ℕ → InfluenceArea → Option ℕ
 clamped_of n x = clamped_share (formula_share n x)
 
 -- 01, Reduced load and figure: "Class 2, and class 1 above 5,000: share 1 where n is 1, else 4/5", in twentieths

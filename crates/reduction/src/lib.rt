@@ -1,19 +1,21 @@
 // CIRSOC 101, 4.7: the share of a live load, and the reduced load.
 #![tactic(auto)]
 
-ghost use Rattle.std.specs.Prelude.{◌≡◌, true, ◌≤◌};
-ghost use Rattle.member.specs.Between.{between};
+ghost use Rattle.std.specs.Prelude.{◌≡◌, true, IfSome, ◌≤◌};
 ghost use Rattle.member.specs.Line.{is_formula};
 ghost use Rattle.refusal.specs.Said.{said};
 ghost use Rattle.reduction.specs.declared.InfluenceArea.{InfluenceArea};
 ghost use Rattle.reduction.specs.Share.{clamped_of, heavy_twentieths, other_twentieths};
 ghost use Rattle.reduction.specs.Reduced.{reduced_of};
 ghost use Rattle.reduction.specs.Scale.{scale_of};
+ghost use Rattle.reduction.specs.inner.Class.{class_number};
 
+use class::Class;
 use member::limits;
 use refusal::Refusal;
 use share::Share;
 
+mod class;
 mod rounding;
 mod scale;
 mod share;
@@ -23,15 +25,48 @@ mod share;
 #[derive(Clone, Copy)]
 pub struct InfluenceArea(pub u64);
 
-// The share of the formula lines at n floors and the influence area x, in twentieths, where it is
-// clamped; 0 where it is the root.
-#[tactic(auto, unfolding(crate::specs::Share::clamped_of, crate::specs::Share::clamped_share))]
-pub fn clamped_twentieths(floors: u64, x: InfluenceArea) -> u64
-    ensures { result ≡ clamped_of floors x }
-{
-    match share::formula_share(floors, x) {
-        Share::Twentieths(k) => k,
-        Share::Root(_) => 0,
+// What the lines carried at a floor are reduced by: how many floors they have, n, and their influence area, X.
+#[derive(Clone, Copy)]
+pub struct Carried {
+    pub floors: u64,
+    pub influence: InfluenceArea,
+}
+
+impl Carried {
+    // The share of the formula lines, in twentieths, where it is clamped.
+    #[tactic(auto, unfolding(crate::specs::Share::clamped_of, crate::specs::Share::clamped_share))]
+    pub fn clamped_twentieths(self) -> Option<u64>
+        ensures { result ≡ clamped_of self.floors self.influence }
+    {
+        match self.formula_share() {
+            Share::Twentieths(k) => Some(k),
+            Share::Root(_) => None,
+        }
+    }
+
+    // The root part of 4 × share in units of 2⁻¹⁹, rounded down, for all formula lines, where their
+    // share is not clamped. By it most reduced loads need no search.
+    pub fn root_scale(self) -> Option<u64>
+        ensures value { result ≡ scale_of self.floors self.influence }
+        ensures small { IfSome result (λ scale. scale ≤ 1572863) }
+    {
+        let formula = self.formula_share();
+        match formula {
+            Share::Twentieths(_) => None,
+            Share::Root(x) => Some(scale::rounded_down(x)),
+        }
+    }
+
+    // The reduced load R of a line; refused where the class or the load is outside its limits. The
+    // papers leave 0 floors free: it is then that of one floor.
+    pub fn reduced_load(self, load: u64, class: u64) -> Result<u64, Refusal>
+        ensures { said result ≡ reduced_of load class self.floors self.influence }
+    {
+        // a formula line with a load is within its limits
+        if member::is_formula(load, class) && 0 < load {
+            return Ok(rounding::rounded(self.formula_share(), load));
+        }
+        other_load(load, class, self.floors)
     }
 }
 
@@ -48,25 +83,12 @@ pub fn heavy_twentieths(floors: u64) -> u64
 
 // The share of a line that the formula is not for, in twentieths: public assembly has the whole load.
 #[tactic(auto, unfolding(crate::specs::Share::other_twentieths))]
-fn other_twentieths(class: u64, floors: u64) -> u64
-    requires { between 1 3 class ≡ true }
-    ensures { result ≡ other_twentieths class floors }
+fn other_twentieths(class: Class, floors: u64) -> u64
+    ensures { result ≡ other_twentieths (class_number class) floors }
 {
-    if class == 3 {
-        return 20;
-    }
-    heavy_twentieths(floors)
-}
-
-// The root part of 4 × share in units of 2⁻¹⁹, rounded down, for all formula lines at n floors and
-// the influence area x; 0 where their share is clamped. By it most reduced loads need no search.
-pub fn root_scale(floors: u64, x: InfluenceArea) -> u64
-    ensures { (result ≡ scale_of floors x) × (result ≤ 1572863) }
-{
-    let formula = share::formula_share(floors, x);
-    match formula {
-        Share::Twentieths(_) => 0,
-        Share::Root(y) => scale::rounded_down(y),
+    match class {
+        Class::Assembly => 20,
+        Class::Ordinary | Class::Garage => heavy_twentieths(floors),
     }
 }
 
@@ -76,26 +98,9 @@ fn other_load(load: u64, class: u64, floors: u64) -> Result<u64, Refusal>
     requires { is_formula load class ≡ true → load ≡ 0 }
     ensures { (x : InfluenceArea) → said result ≡ reduced_of load class floors x }
 {
-    if !limits::is_between(1, 3, class) {
-        return Err(Refusal::UnknownClass);
-    }
+    let class = Class::try_from(class)?;
     if !limits::is_between(1, 50000, load) {
         return Err(Refusal::LoadOutOfRange);
     }
     Ok(rounding::twentieths_of(other_twentieths(class, floors), load))
-}
-
-// The reduced load R of a line, at n floors and the influence area x; refused where the class or
-// the load is outside its limits. The papers leave 0 floors free: it is then that of one floor.
-pub fn reduced_load(load: u64, class: u64, floors: u64, x: InfluenceArea) -> Result<u64, Refusal>
-    ensures { said result ≡ reduced_of load class floors x }
-{
-    // a formula line with a load is within its limits
-    if !member::is_formula(load, class) {
-        return other_load(load, class, floors);
-    }
-    if load == 0 {
-        return other_load(load, class, floors);
-    }
-    Ok(rounding::rounded(share::formula_share(floors, x), load))
 }

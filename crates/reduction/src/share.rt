@@ -2,7 +2,7 @@
 ghost use Rattle.std.specs.Prelude.{◌≡◌};
 ghost use Rattle.reduction.specs.Share.{formula_share};
 
-use crate::InfluenceArea;
+use crate::{Carried, InfluenceArea};
 
 // What a load is multiplied by: so many twentieths, or 1/4 + 45.7/√X.
 #[derive(Clone, Copy)]
@@ -18,22 +18,24 @@ const HALF_FIRST: u64 = 33416;
 // The first at which it gives at most 2/5: 9 X is at least 914².
 const TWO_FIFTHS_FIRST: u64 = 92822;
 
-// The share of the formula lines: at most 1, at least 1/2 for one floor and 2/5 for more.
-pub fn formula_share(floors: u64, x: InfluenceArea) -> Share
-    ensures { result ≡ formula_share floors x }
-{
-    let influence = x.0;
-    if influence <= CAP_LAST {
-        return Share::Twentieths(20);
-    }
-    if floors <= 1 {
-        if HALF_FIRST <= influence {
-            return Share::Twentieths(10);
+impl Carried {
+    // The share of the formula lines: at most 1, at least 1/2 for one floor and 2/5 for more.
+    pub fn formula_share(self) -> Share
+        ensures { result ≡ formula_share self.floors self.influence }
+    {
+        let influence = self.influence.0;
+        if influence <= CAP_LAST {
+            return Share::Twentieths(20);
         }
-        return Share::Root(x);
+        if self.floors <= 1 {
+            if HALF_FIRST <= influence {
+                return Share::Twentieths(10);
+            }
+            return Share::Root(self.influence);
+        }
+        if TWO_FIFTHS_FIRST <= influence {
+            return Share::Twentieths(8);
+        }
+        Share::Root(self.influence)
     }
-    if TWO_FIFTHS_FIRST <= influence {
-        return Share::Twentieths(8);
-    }
-    Share::Root(x)
 }

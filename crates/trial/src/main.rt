@@ -4,6 +4,7 @@
 
 use crate::columns::State;
 use crate::questions::Question;
+use reduction::Carried;
 use std::alloc::Global;
 use std::io;
 use std::io::{BufWriter, Read, Write};
@@ -25,8 +26,8 @@ fn answer<W: Write>(out: &mut W, state: &mut State, question: Question) -> io::R
             floors,
             influence,
         } => {
-            let reduced = reduction::reduced_load(load, class, floors, influence);
-            print::print_answer(out, "reduced", reduced)
+            let carried = Carried { floors, influence };
+            print::print_answer(out, "reduced", carried.reduced_load(load, class))
         }
         Question::Open(code) => print::print_number(out, state.open(code)),
         Question::Enter(line) => {

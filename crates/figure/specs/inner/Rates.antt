@@ -1,10 +1,12 @@
 -- The shares at a floor as rates, and what follows for a line.
 -- Assumes nothing.
-use Rattle.std.specs.Prelude.{◌≡◌, cond, ℕ, ◌+◌, ◌*◌, eqb}
+use Rattle.std.specs.Prelude.{◌≡◌, ℕ, ◌+◌, ◌*◌}
 use Rattle.reduction.specs.declared.InfluenceArea.{InfluenceArea}
-use Rattle.reduction.specs.Share.{clamped_of, heavy_twentieths, share_of}
+use Rattle.reduction.specs.declared.share.Share.{Share}
+use Rattle.reduction.specs.declared.share.Share.TheVariants.{Twentieths, Root}
+use Rattle.reduction.specs.Share.{clamped_of, formula_share, heavy_twentieths, share_of}
 use Rattle.reduction.specs.Reduced.{reduced}
-use Rattle.reduction.specs.Scale.{scale_of}
+use Rattle.reduction.specs.Scale.{root_scale}
 use Rattle.column.specs.declared.Line.{Line}
 use Rattle.figure.specs.declared.rates.Rate.{Rate}
 use Rattle.figure.specs.declared.rates.Shares.{Shares}
@@ -18,9 +20,14 @@ twentieths_rate k = record { times = k * 3355444; plus = 63753436; doubt = 0 }
 unfoldable pub root_rate : ℕ → Rate
 root_rate scale = record { times = (524288 + scale) * 32; plus = 67108832; doubt = 32 }
 
--- the rate of the formula lines' share: clamped to so many twentieths, or the root where they are 0
-unfoldable pub rate_of : ℕ → ℕ → Rate
-rate_of clamped scale = cond (eqb clamped 0) (root_rate scale) (twentieths_rate clamped)
+-- the rate of a share
+unfoldable pub share_rate : Share → Rate
+share_rate (Twentieths k) = twentieths_rate k
+share_rate (Root x) = root_rate (root_scale x)
+
+-- the rate of the formula lines' share at n floors and the influence area x
+unfoldable pub rate_of : ℕ → InfluenceArea → Rate
+rate_of n x = share_rate (formula_share n x)
 
 -- the shares at n floors and the influence area x
 unfoldable pub shares_at : ℕ → InfluenceArea → Shares
@@ -29,7 +36,7 @@ shares_at n x =
       floors = n;
       influence = x;
       clamped = clamped_of n x;
-      formula = rate_of (clamped_of n x) (scale_of n x);
+      formula = rate_of n x;
       other = (twentieths_rate (heavy_twentieths n)).times;
     }
 

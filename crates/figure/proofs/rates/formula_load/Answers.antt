@@ -5,16 +5,12 @@ use native.Mathlib.Nat.{mul-le-mul}
 use native.Mathlib.Omega.{arith}
 use Rattle.figure.specs.declared.rates.Rate.{Rate}
 use Rattle.figure.specs.declared.rates.Shares.{Shares}
-use Rattle.reduction.specs.Share.{clamped_of}
-use Rattle.reduction.specs.Scale.{scale_of}
 use Rattle.figure.specs.inner.Rates.{rate_of, shares_at, formula_load}
 use Rattle.figure.proofs.ByRate.{by, Sure, Small, formula_small, formula_by}
 use Rattle.figure.proofs.rates.formula_load.Goals as goal
 use Rattle.figure.proofs.rates.formula_load.Goals.{Start}
 
-rate : (s : Start) → let n = s.args.shares.floors in
-    let x = s.args.shares.influence in
-    s.args.shares.formula ≡ rate_of (clamped_of n x) (scale_of n x)
+rate : (s : Start) → s.args.shares.formula ≡ rate_of s.args.shares.floors s.args.shares.influence
 unfolding shares_at
 rate s = ap (λ (t : Shares). t.formula) s.requires.2
 
@@ -47,4 +43,4 @@ pub returns : goal.returns
 returns c =
     let load = c.args.load in
     subst⁻¹ (λ (r : Rate). Sure r load → by r load ≡ formula_load c.args.shares load) (rate (goal.at.returns c).Start)
-    (formula_by c.args.shares.floors load c.args.shares.influence c.requires.0 c.requires.1) c.if-low-load.false
+    (formula_by c.args.shares.floors load c.args.shares.influence c.requires.1) c.if-low-load.false

@@ -1,15 +1,15 @@
--- `reduction::root_scale` meets its contract. Assumes nothing.
+-- `reduction::Carried::root_scale` meets its contract. Assumes nothing.
 use mathlib.Core.Path.{◌≡◌, ◌∙◌, sym}
 use native.Mathlib.Omega.{arith}
 use Rattle.reduction.specs.declared.share.Share.TheVariants.{Root}
 use Rattle.reduction.specs.Share.{formula_share}
 use Rattle.reduction.specs.Scale.{share_scale, scale_of}
 use Rattle.reduction.proofs.Fits.{formula_fits, fit_root}
-use Rattle.reduction.proofs.root_scale.Goals as goal
-use Rattle.reduction.proofs.root_scale.Goals.{In-Root}
+use Rattle.reduction.proofs.Carried.root_scale.Goals as goal
+use Rattle.reduction.proofs.Carried.root_scale.Goals.{In-Root}
 
 -- the share is the root
-root : (c : In-Root) → formula_share c.args.floors c.args.x ≡ Root c.in-Root.y
+root : (c : In-Root) → formula_share c.args.self.floors c.args.self.influence ≡ Root c.in-Root.x
 root c = sym c.formula_share-formula.ensures ∙ c.in-Root.is
 
 pub rounded_down-requires : goal.rounded_down-requires
@@ -17,8 +17,10 @@ rounded_down-requires c = omega (arith, fit_root (formula_fits _ _) (root (goal.
 
 pub returns-in-Twentieths : goal.returns-in-Twentieths
 unfolding scale_of share_scale
-returns-in-Twentieths c = (rw (sym c.formula_share-formula.ensures ∙ c.in-Twentieths.is), omega arith)
+returns-in-Twentieths c = record { value = rw (sym c.formula_share-formula.ensures ∙ c.in-Twentieths.is); small = tt }
 
 pub returns-in-Root : goal.returns-in-Root
 unfolding scale_of share_scale
-returns-in-Root c = rw (root (goal.at.returns-in-Root c).In-Root) c.rounded_down.ensures
+returns-in-Root c =
+    let share = root (goal.at.returns-in-Root c).In-Root in
+    record { value = rw (share, c.rounded_down.ensures.0); small = c.rounded_down.ensures.1 }
