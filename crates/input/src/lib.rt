@@ -7,48 +7,47 @@ ghost use Rattle.input.specs.Ending.{is_full};
 
 use std::io::{Error, Read};
 
-// Why reading stopped: the buffer is full, the input has ended or a read failed.
-#[derive(Drop)]
+// Why reading stopped where no read failed: the buffer is full, or the input has ended.
+#[derive(Clone, Copy)]
 pub enum Ending {
     Full,
     Ended,
-    Failed(Error),
 }
 
-// What was read: so many bytes at the start of the buffer, and why no more.
+// What was read: so many bytes at the start of the buffer, and why no more, or the error of a read.
 #[derive(Drop)]
 pub struct Input {
     pub count: usize,
-    pub ending: Ending,
+    pub ending: Result<Ending, Error>,
 }
 
 // Reads until the buffer is full, the input ends or a read fails. Which bytes come is the reader's; they
-// stand at the start of the buffer, and fill it where it is full and nowhere else.
+// stand at the start of the buffer, and fill it where it is full and nowhere else. `read_exact` of std
+// would not say how much was read before the input ended or a read failed.
 pub fn read_from<R: Read>(reader: &mut R, buffer: &mut [u8]) -> Input
     ensures prefix_len { IsPrefixLen result.count buffer.new }
     ensures ending_value { is_full result.ending ≡ eqb result.count (length buffer.new) }
 {
     let mut count = 0;
     while count < buffer.len() {
-        let got = reader.read(&mut buffer[count..]);
-        match got {
+        match reader.read(&mut buffer[count..]) {
             Ok(0) => {
                 return Input {
                     count,
-                    ending: Ending::Ended,
+                    ending: Ok(Ending::Ended),
                 };
             }
             Ok(more) => count += more,
             Err(error) => {
                 return Input {
                     count,
-                    ending: Ending::Failed(error),
+                    ending: Err(error),
                 };
             }
         }
     }
     Input {
         count,
-        ending: Ending::Full,
+        ending: Ok(Ending::Full),
     }
 }

@@ -6,7 +6,6 @@ ghost use Rattle.io.specs.Counts.{IsPrefixLen};
 ghost use Rattle.sheet.specs.Sheet.{longest};
 ghost use Rattle.report.specs.Report.{report_of};
 
-use input::Ending;
 use std::env::{Env, FillError};
 use std::io::{IsTerminal, Write};
 
@@ -23,7 +22,8 @@ fn put_printed(buffer: &[u8], count: usize, out: &mut [u8; report::ROOM]) -> usi
     report::put_printed(&buffer[..count], out)
 }
 
-// Whether words stand behind the program's name on its command line.
+// Whether words stand behind the program's name on its command line. std's `args` would take memory from
+// the heap.
 fn has_words(rt: &impl Env) -> bool {
     let mut word = [0u8; 1];
     !matches!(rt.arg(1, &mut word), Err(FillError::NotPresent))
@@ -52,7 +52,7 @@ fn main(rt: HostRuntime) {
     }
     let mut text = [0u8; ROOM];
     let input = input::read_from(&mut rt.stdin(), &mut text);
-    if let Ending::Failed(error) = input.ending {
+    if let Err(error) = input.ending {
         let _ = eprintln!(rt; "takedown: reading standard input: {error}");
         return;
     }
