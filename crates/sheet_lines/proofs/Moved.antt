@@ -13,10 +13,13 @@ use lib.Seq.{drop-drop}
 use borrow.Author.Tests.{eq-eqb, ne_eqb, eqb-true, eqb-false}
 use Rattle.std.specs.Prelude.{Option, Some, None, option_map}
 use Rattle.sheet_lines.specs.declared.number.Read.{Read}
+use Rattle.sheet_lines.specs.declared.Form.{Form}
 use Rattle.sheet_lines.specs.declared.Form.TheVariants.{Effect}
 use Rattle.newtons.specs.Effect.{signed}
 use Rattle.sheet_lines.specs.Number.{may_grow, number_ended, number_from, number_at, begins, field_at}
-use Rattle.sheet_lines.specs.Form.{with_number, fields_from, effect_end}
+use Rattle.sheet_lines.specs.inner.InLine.{whole_number}
+use Rattle.text.specs.Text.{minus}
+use Rattle.sheet_lines.specs.Form.{with_number, fields_from, effect_end, effect_form}
 use Rattle.sheet_lines.proofs.AtPlace.{read, strip_is}
 
 -- a number whose place is counted from further back
@@ -98,13 +101,54 @@ field_behind key s {rest} {o} e r n =
     let o_is : number_at (drop (length key) s) 0 ≡ o = ap (λ (t : List ℕ). number_at t 0) (sym r) ∙ sym n in
     rw b (ap (number_at s) (zero-add (length key) ∙ sym (add-zero (length key))) ∙ number_rest s (length key) 0 ∙ ap (moved (length key)) o_is)
 
--- and so the number that ends a line
-pub end_rest : (k : ℕ) (l : List ℕ) (at : ℕ) (negative : Bool) → at ≤ length l → effect_end k l at negative ≡ effect_end k (drop at l) 0 negative
-unfolding effect_end
-end_rest k l at negative h =
+-- what is made of a number, where there is one
+abbrev pub of_number : {A : Type 0} → Option ℕ → (ℕ → Option A) → Option A
+of_number None f = None
+of_number (Some n) f = f n
+
+with_whole : {A : Type 0} (o : Option Read) (n : ℕ) (f : ℕ → Option A)
+    → with_number o (λ v next. cond (eqb next n) (f v) None) ≡ of_number (with_number o (λ v next. cond (eqb next n) (Some v) None)) f
+unfolding with_number
+with_whole None n f = refl
+with_whole (Some r) n f = go (eqb r.next n)
+  where
+    go : (t : Bool) → cond t (f r.value) None ≡ of_number (cond t (Some r.value) None) f
+    go true = refl
+    go false = refl
+
+-- the number that ends a line is the one that the rest is
+pub end_is : (k : ℕ) (l : List ℕ) (at : ℕ) (negative : Bool) → at ≤ length l
+    → effect_end k l at negative ≡ of_number (whole_number (drop at l)) λ v. cond (negative && eqb v 0) None (Some (Effect k (signed negative v)))
+unfolding effect_end whole_number
+end_is k l at negative h =
     rw (ap (number_at l) (sym (add-zero at)) ∙ number_rest l at 0)
     (with_moved at (number_at (drop at l) 0) (λ v next. cond (eqb next (length l)) (cond (negative && eqb v 0) None (Some (Effect k (signed negative v)))) None)
-    ∙ with_same (number_at (drop at l) 0) _ _ λ v q. rw (at_end l at q h))
+    ∙ (with_same (number_at (drop at l) 0) _ _ (λ v q. rw (at_end l at q h))
+    ∙ with_whole (number_at (drop at l) 0) (length (drop at l)) (λ v. cond (negative && eqb v 0) None (Some (Effect k (signed negative v))))))
+
+-- the form of an effect's line, from what stands behind its key, and behind its minus sign
+module _ (place : ℕ) (key line : List ℕ) {rest : List ℕ} (starts : pointwise eqb (take (length key) line) key ≡ true) (is : rest ≡ drop (length key) line) (inside : length key ≤ length line) where
+  -- what a number says there
+  abbrev pub effect_by : Bool → ℕ → Option Form
+  effect_by negative v = cond (negative && eqb v 0) None (Some (Effect place (signed negative v)))
+
+  begun : begins key line ≡ true
+  begun = sym (strip_is line key) ∙ starts
+
+  pub plain_form : pointwise eqb (take 1 rest) (minus ∷ []) ≡ false → {o : Option ℕ} → whole_number rest ≡ o → effect_form place key line ≡ of_number o (effect_by false)
+  unfolding effect_form
+  plain_form m {o} w =
+      let plain : begins (minus ∷ []) (drop (length key) line) ≡ false = rw (← is) (sym (strip_is rest (minus ∷ [])) ∙ m) in
+      rw (begun, plain) (end_is place line (length key) false inside ∙ rw (← is, w))
+
+  pub signed_form : pointwise eqb (take 1 rest) (minus ∷ []) ≡ true → {size : List ℕ} → size ≡ drop 1 rest → 1 ≤ length rest → {o : Option ℕ} → whole_number size ≡ o
+      → effect_form place key line ≡ of_number o (effect_by true)
+  unfolding effect_form
+  signed_form m {size} d h {o} w =
+      let sign : begins (minus ∷ []) (drop (length key) line) ≡ true = rw (← is) (sym (strip_is rest (minus ∷ [])) ∙ m) in
+      let behind : size ≡ drop (length key + 1) line = d ∙ ap (drop 1) is ∙ drop-drop 1 (length key) line in
+      let within : length key + 1 ≤ length line = omega (arith, ap length is, length-drop (length key) line) in
+      rw (begun, sign) (end_is place line (length key + 1) true within ∙ rw (← behind, w))
 
 -- one number more of a line is read, behind its key
 pub fields_more : (done : List ℕ) (key : List ℕ) (keys : List (List ℕ)) (s : List ℕ) (v p : ℕ) → field_at key s 0 ≡ Some (read v p) → p ≤ length s

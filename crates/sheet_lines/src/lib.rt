@@ -1,9 +1,10 @@
 // The form of a line of a sheet: what its words say, whatever its numbers come to.
 #![tactic(auto)]
 
-ghost use Rattle.std.specs.Prelude.{◌≡◌, [], map, length, option_copied, slice_get};
+ghost use Rattle.std.specs.Prelude.{◌≡◌, ◌<◌, [], map, length, option_copied, slice_get, IfSome};
 ghost use Rattle.refusal.specs.Said.{said};
-ghost use Rattle.sheet_lines.specs.Form.{effect_keys, fields_from, member_form, floor_form, effect_end, effect_form, is_floor, later_form, line_said};
+ghost use Rattle.sheet_lines.specs.Form.{effect_keys, fields_from, member_form, floor_form, effect_form, is_floor, later_form, line_said};
+ghost use Rattle.sheet_lines.specs.inner.InLine.{whole_number};
 
 use column::Line;
 use member::TributaryArea;
@@ -72,39 +73,38 @@ fn floor_form(line: &[u8]) -> Option<Form>
     }))
 }
 
-// The number that a text is, after a minus sign or none.
-fn effect_end(place: usize, text: &[u8], negative: bool) -> Option<Form>
-    ensures { result ≡ effect_end place text.now 0 negative }
+// The number that the whole of a text is.
+fn whole_number(text: &[u8]) -> Option<u64>
+    ensures value { result ≡ whole_number text.now }
+    ensures small { IfSome result (λ n. n < 10000000000000) }
 {
     let Read { value, next } = number_at(text)?;
     if next != text.len() {
         return None;
     }
-    let size = value as i64;
-    if !negative {
-        return Some(Form::Effect {
-            place,
-            newtons: size,
-        });
-    }
-    if value == 0 {
-        return None;
-    }
-    Some(Form::Effect {
-        place,
-        newtons: -size,
-    })
+    Some(value)
 }
 
-// A line with an effect's key and its number, for the effect at a place.
+// A line with an effect's key and its number, for the effect at a place; no minus sign stands before 0.
 fn effect_form(place: usize, line: &[u8], key: &[u8]) -> Option<Form>
     ensures { result ≡ effect_form place key.now line.now }
 {
     let number = line.strip_prefix(key)?;
-    if let Some(size) = number.strip_prefix(b"-") {
-        return effect_end(place, size, true);
+    let Some(size) = number.strip_prefix(b"-") else {
+        let load = whole_number(number)?;
+        return Some(Form::Effect {
+            place,
+            newtons: load as i64,
+        });
+    };
+    let uplift = whole_number(size)?;
+    if uplift == 0 {
+        return None;
     }
-    effect_end(place, number, false)
+    Some(Form::Effect {
+        place,
+        newtons: -(uplift as i64),
+    })
 }
 
 // Whether a line is a floor line, where the effect at a place is due.
