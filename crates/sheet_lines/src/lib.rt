@@ -40,8 +40,8 @@ fn read_fields<const N: usize>(line: &[u8], keys: &[&[u8]]) -> Option<[u64; N]>
 {
     let mut numbers = [0; N];
     let mut rest = line;
-    for i in 0..N {
-        let field = field_at(rest, keys[i])?;
+    for (i, key) in keys.iter().enumerate() {
+        let field = field_at(rest, key)?;
         numbers[i] = field.value;
         rest = &rest[field.next..];
     }
