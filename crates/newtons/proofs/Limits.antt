@@ -6,9 +6,10 @@ use native.Mathlib.Omega.{arith}
 use lib.Dec.{T, leb, ltb, leb→le}
 use lib.IntN.{ℤ, nat_abs}
 use lib.Ieee.{Float}
+use Rattle.std.specs.Prelude.{Option, Some, None}
 use borrow.Author.Tests.{le-leb, lt-leb, lt-ltb, le-ltb, ltb-false}
 use Rattle.refusal.specs.Said.{Told, Said, gives, refused, nothing}
-use Rattle.newtons.specs.Effect.{Value, whole, not_whole, signed, value_of, HeldWhole, itself, large, held_of, limit, within, limited, effect_of}
+use Rattle.newtons.specs.Effect.{Value, whole, not_whole, signed, value_of, held_of, limit, within, limited, effect_of}
 use Rattle.newtons.proofs.Word.{size_neg}
 use Rattle.newtons.proofs.Values.{Is}
 
@@ -23,16 +24,16 @@ pub held_none : {v : Value} → v ≡ not_whole → held_of v ≡ refused 8 noth
 unfolding held_of
 held_none h = ap held_of h
 
-pub held_large : {x : Float} {s : Bool} {n : ℕ} → Is x s n → 2 ^ 53 ≤ n → held_of (value_of x) ≡ gives large
+pub held_large : {x : Float} {s : Bool} {n : ℕ} → Is x s n → 2 ^ 53 ≤ n → held_of (value_of x) ≡ gives None
 unfolding held_of
 held_large {x} {s} {n} h l = ap held_of h.is ∙ simp (signed_size s n, le-ltb n (2 ^ 53) l)
 
-pub held_whole : {v : Value} {z : ℤ} → v ≡ whole z → nat_abs z < 2 ^ 53 → held_of v ≡ gives (itself z)
+pub held_whole : {v : Value} {z : ℤ} → v ≡ whole z → nat_abs z < 2 ^ 53 → held_of v ≡ gives (Some z)
 unfolding held_of
 held_whole {v} {z} h l = ap held_of h ∙ simp (lt-ltb (nat_abs z) (2 ^ 53) l)
 
 -- of sign s and size n, where the sign is told by a test
-pub held_signed : {x : Float} {s : Bool} {n : ℕ} → Is x s n → n < 2 ^ 53 → (b : Bool) → s ≡ b → held_of (value_of x) ≡ gives (itself (signed b n))
+pub held_signed : {x : Float} {s : Bool} {n : ℕ} → Is x s n → n < 2 ^ 53 → (b : Bool) → s ≡ b → held_of (value_of x) ≡ gives (Some (signed b n))
 held_signed {x} {s} {n} h l b e =
     held_whole (h.is ∙ ap (λ (t : Bool). whole (signed t n)) e) (subst (λ (k : ℕ). k < 2 ^ 53) (sym (signed_size b n)) l)
 
@@ -56,16 +57,16 @@ effect_within x z h = go (value_of x) h
     go not_whole e = let q : ◌≡◌ {A = ℕ} 0 1 = cc in omega arith
 
 -- 8 and 9 told of what is handed on: a large number is beyond the limit
-unfoldable pub limited_held : Float → Said HeldWhole → Told Float ℤ
-limited_held x (gives (itself z)) = cond (within z) (gives z) (refused 9 x)
-limited_held x (gives large) = refused 9 x
+unfoldable pub limited_held : Float → Said (Option ℤ) → Told Float ℤ
+limited_held x (gives (Some z)) = cond (within z) (gives z) (refused 9 x)
+limited_held x (gives None) = refused 9 x
 limited_held x (refused n _) = refused n x
 
 pub effect_held : (x : Float) → effect_of x ≡ limited_held x (held_of (value_of x))
 unfolding effect_of limited limited_held held_of
 effect_held x = go (value_of x)
   where
-    test : (z : ℤ) (t : Bool) → ltb (nat_abs z) (2 ^ 53) ≡ t → cond (within z) (gives z) (refused 9 x) ≡ limited_held x (gives (cond t (itself z) large))
+    test : (z : ℤ) (t : Bool) → ltb (nat_abs z) (2 ^ 53) ≡ t → cond (within z) (gives z) (refused 9 x) ≡ limited_held x (gives (cond t (Some z) None))
     test z true e = refl
     test z false e = let h = ltb-false (nat_abs z) (2 ^ 53) e in rw (lt-leb (nat_abs z) limit (omega arith))
 

@@ -1,18 +1,17 @@
 -- The value of a double, from the fields of its bits, and back from a whole number. Assumes nothing.
 use mathlib.Core.Path.{◌≡◌, refl, sym, ap, ◌∙◌, subst}
-use mathlib.Core.Bool.{Bool, true, false, not, cond}
+use mathlib.Core.Bool.{Bool, true, false, cond}
 use Prim.Native.Nat.{ℕ, zero, suc, ◌+◌, ◌-◌, ◌*◌, ◌/◌, ◌%◌, ◌^◌, ◌≤◌, ◌<◌}
 use native.Mathlib.Nat.{zero-lt-suc, mod-lt, mod-eq_of_lt, mod-one, div-one, lt_of_lt_of_le, mul-le-mul, mul_assoc, mul_right_comm, mul-one, add-zero, div-add-mod', mul-mod_left, eq_of_mul-eq-mul_right}
 use native.Mathlib.Omega.{arith}
 use lib.Dec.{T, leb, eqb, eqb→eq, le→leb, lt→ltb, lit<, lit≤}
 use lib.IntN.{ℤ, pos, negsuc, nat_abs}
 use lib.Pow.{pow_pos, pow-add, pow_mono}
-use lib.Ieee.{Float, nan, inf, fin, binary64, up, down, odd, of_fields, of_bits, to_bits, fits, is_nan, ne, in_float, of_int, round}
+use lib.Ieee.{Float, nan, inf, fin, binary64, up, down, odd, of_fields, of_bits, to_bits, fits, is_nan, in_float, of_int, round}
 use lib.Ieee.Fits.{down_pos}
 use lib.Ieee.Nearest.{div_same}
 use lib.Ieee.Bits.{of_bits-to_bits}
 use lib.Ieee.Back.{round_whole}
-use lib.Ieee.Compare.{differs_from_itself}
 use lib.Ieee.Exact.{HasValue, odd_sign}
 use borrow.Author.Tests.{eq-eqb, ne_eqb}
 use Rattle.newtons.specs.Effect.{whole, not_whole, signed, fraction, value_of}
@@ -122,15 +121,11 @@ pub fields_of : (x : Float) → T (fits binary64 x) → Fields x (leb (2 ^ 63) (
 unfolding of_bits
 fields_of x h = record { is = of_bits-to_bits binary64 x h; digits = mod-lt (to_bits binary64 x) (pow_pos 52) }
 
-pub not_nan : (x : Float) → ne x x ≡ false → T (not (is_nan x))
-unfolding ne is_nan
-not_nan nan h = subst T h tt
-not_nan (inf s) h = tt
-not_nan (fin s m e) h = tt
-
-pub nan_value : (x : Float) → ne x x ≡ true → value_of x ≡ not_whole
-unfolding value_of
-nan_value x h = subst (λ (y : Float). value_of y ≡ not_whole) (sym (differs_from_itself x (subst T (sym h) tt))) refl
+pub nan_value : (x : Float) → is_nan x ≡ true → value_of x ≡ not_whole
+unfolding is_nan value_of
+nan_value nan h = refl
+nan_value (inf s) h = refl
+nan_value (fin s m e) h = absurd (subst T (sym h) tt)
 
 -- the value by the fields, each exponent with its case
 pub zero_value : {x : Float} {s : Bool} {e t : ℕ} → Fields x s e t → e ≡ 0 → t ≡ 0 → value_of x ≡ whole (pos 0)

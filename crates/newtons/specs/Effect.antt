@@ -2,15 +2,9 @@
 -- A double is `nan`, an infinity `inf s`, or `fin s m e`: the number m × 2^e, negative where s is true.
 -- 2^e is the fraction up e / down e, so the size of the double is m × up e / down e.
 -- Assumes nothing.
-use Rattle.std.specs.Prelude.{Bool, true, false, cond, ℕ, ◌*◌, ◌/◌, ◌%◌, ◌^◌, leb, ltb, eqb, ℤ, pos, neg_ℤ, nat_abs, Float}
+use Rattle.std.specs.Prelude.{Bool, true, false, cond, ℕ, ◌*◌, ◌/◌, ◌%◌, ◌^◌, leb, ltb, eqb, ℤ, pos, neg_ℤ, nat_abs, Float, Option, Some, None}
 use Rattle.std.specs.Float.{nan, inf, fin}
 use Rattle.std.specs.Float.Ieee.{up, down}
-use Rattle.refusal.specs.Refusal.{number_of}
-use Rattle.refusal.specs.declared.Refusal.TheVariants.{EffectNotWhole, EffectOutOfRange}
-use Rattle.newtons.specs.declared.Held.{Held}
-use Rattle.newtons.specs.declared.Held.TheVariants as H
-use Rattle.newtons.specs.declared.Effect.{Effect}
-use Rattle.newtons.specs.declared.Effect.TheVariants.{Whole, NotWhole, Beyond}
 use Rattle.refusal.specs.Said.{Told, Said, gives, refused, nothing}
 
 -- 01, Numbers by the place of checking: the value of a double, a whole number or not
@@ -33,22 +27,11 @@ value_of nan = not_whole
 value_of (inf s) = not_whole
 value_of (fin s m e) = fraction s (m * up e) (down e)
 
--- No part of the paper: a whole number as 64 bits can hold it, itself below 2^53 in size, and else that it is not below, from
--- where on every double is whole and few fit
-pub data HeldWhole : Type 0 where
-  itself : ℤ → HeldWhole
-  large : HeldWhole
-
--- 01, Numbers by the place of checking: 8, "not a whole number", told of the value alone; the cut at 2^53 is not of the paper
-unfoldable pub held_of : Value → Said HeldWhole
-held_of (whole z) = gives (cond (ltb (nat_abs z) (2 ^ 53)) (itself z) large)
+-- 01, Numbers by the place of checking: 8, "not a whole number", told of the value alone; none where it is 2^53 or more in size,
+-- a cut that is not of the paper: from there on every double is whole and few fit 64 bits
+unfoldable pub held_of : Value → Said (Option ℤ)
+held_of (whole z) = gives (cond (ltb (nat_abs z) (2 ^ 53)) (Some z) None)
 held_of not_whole = refused 8 nothing
-
--- 01, Where each language form belongs: the number and the values of each case
-unfoldable pub said_held : Held → Said HeldWhole
-said_held (H.Whole z) = gives (itself z)
-said_held H.Large = gives large
-said_held H.NotWhole = refused (number_of EffectNotWhole) nothing
 
 -- 01, Effects and the 25 combinations: what is held against "±1,000,000,000,000": how large a number is, whatever its sign
 abbrev pub magnitude_of : ℤ → ℕ
@@ -70,9 +53,3 @@ limited x (whole z) = cond (within z) (gives z) (refused 9 x)
 -- 01, Numbers by the place of checking: what a double gives as an effect, or 8 or 9
 unfoldable pub effect_of : Float → Told Float ℤ
 effect_of x = limited x (value_of x)
-
--- 01, Where each language form belongs: the number and the values of each case
-unfoldable pub said_effect : Effect → Told Float ℤ
-said_effect (Whole z) = gives z
-said_effect (NotWhole x) = refused (number_of EffectNotWhole) x
-said_effect (Beyond x) = refused (number_of EffectOutOfRange) x

@@ -2,7 +2,10 @@
 #![tactic(auto)]
 
 ghost use Rattle.std.specs.Prelude.{◌≡◌};
-ghost use Rattle.newtons.specs.Effect.{value_of, held_of, said_held, within, effect_of, said_effect};
+ghost use Rattle.refusal.specs.Said.{said, told};
+ghost use Rattle.newtons.specs.Effect.{value_of, held_of, within, effect_of};
+
+use refusal::{Refusal, Refused};
 
 pub mod signed;
 
@@ -12,23 +15,6 @@ const LIMIT: u64 = 1_000_000_000_000;
 // The exponent in the bits of an infinity.
 const INFINITE: u64 = 2047;
 
-// What a double is, as 64 bits can hold it: a whole number below 2^53 in size, one of 2^53 or more, or
-// not a whole number.
-#[derive(Clone, Copy)]
-pub enum Held {
-    Whole(i64),
-    Large,
-    NotWhole,
-}
-
-// A double as an effect in newtons; a refused one comes back as it came.
-#[derive(Clone, Copy)]
-pub enum Effect {
-    Whole(i64),
-    NotWhole(f64),
-    Beyond(f64),
-}
-
 // Whether an effect of so many newtons is within the limit.
 pub fn is_within(newtons: i64) -> bool
     ensures { result ≡ within newtons }
@@ -36,59 +22,60 @@ pub fn is_within(newtons: i64) -> bool
     signed::magnitude(newtons) <= LIMIT
 }
 
-// The whole number that a double is, read off its bits: the sign, the exponent and the digits.
-pub fn value_of(x: f64) -> Held
-    ensures { said_held result ≡ held_of (value_of x) }
+// The whole number that a double is, read off its bits: the sign, the exponent and the digits. There is
+// none where it is 2^53 or more in size, from where on every double is whole and few fit 64 bits.
+pub fn value_of(x: f64) -> Result<Option<i64>, Refusal>
+    ensures { said result ≡ held_of (value_of x) }
 {
-    if x != x {
-        return Held::NotWhole;
+    if x.is_nan() {
+        return Err(Refusal::EffectNotWhole);
     }
     let bits = f64::to_bits(x);
     let unsigned = bits % 0x8000_0000_0000_0000;
     let is_zero = unsigned == 0;
     if is_zero {
-        return Held::Whole(0);
+        return Ok(Some(0));
     }
     let exponent = unsigned / 0x10_0000_0000_0000;
     if exponent < 1023 {
         // Above 0 and below 1 in size.
-        return Held::NotWhole;
+        return Err(Refusal::EffectNotWhole);
     }
     if exponent == INFINITE {
         // An infinity.
-        return Held::NotWhole;
+        return Err(Refusal::EffectNotWhole);
     }
     let is_large = exponent > 1075;
     if is_large {
-        return Held::Large;
+        return Ok(None);
     }
     // The size is so many units of 2^(exponent - 1075).
     let units = 0x10_0000_0000_0000 + bits % 0x10_0000_0000_0000;
     let one = 1u64 << (1075 - exponent);
     let has_fraction = units % one > 0;
     if has_fraction {
-        return Held::NotWhole;
+        return Err(Refusal::EffectNotWhole);
     }
     let size = units / one;
     let is_negative = bits >= 0x8000_0000_0000_0000;
     if is_negative {
-        return Held::Whole(-(size as i64));
+        return Ok(Some(-(size as i64)));
     }
-    Held::Whole(size as i64)
+    Ok(Some(size as i64))
 }
 
-// A double as an effect: first whether it is a whole number, then whether that is within the limit.
-pub fn whole_of(x: f64) -> Effect
-    ensures { said_effect result ≡ effect_of x }
+// A double as an effect: first whether it is a whole number, then whether that is within the limit. A
+// refused one comes back as it came.
+pub fn whole_of(x: f64) -> Result<i64, Refused<f64>>
+    ensures { told result ≡ effect_of x }
 {
-    match value_of(x) {
-        Held::Whole(newtons) => {
-            if is_within(newtons) {
-                return Effect::Whole(newtons);
-            }
-            Effect::Beyond(x)
-        }
-        Held::Large => Effect::Beyond(x),
-        Held::NotWhole => Effect::NotWhole(x),
+    let refuse = |refusal: Refusal| Refused { refusal, back: x };
+    let Some(newtons) = value_of(x).map_err(refuse)? else {
+        return Err(refuse(Refusal::EffectOutOfRange));
+    };
+    if is_within(newtons) {
+        Ok(newtons)
+    } else {
+        Err(refuse(Refusal::EffectOutOfRange))
     }
 }

@@ -7,25 +7,23 @@ use native.Mathlib.Omega.{arith}
 use lib.Dec.{leb, lit<, lit≤}
 use lib.Pow.{pow_pos, shl_exact}
 use lib.IntN.{ℤ, pos, neg_ℤ, ◌-ℤ◌, +ℤ_idl}
-use lib.Ieee.{binary64, to_bits}
+use lib.Ieee.{Float, binary64, to_bits}
+use Rattle.std.specs.Prelude.{Some}
 use mir.Syntax.{w64}
 use mir.Val.{SFits, to_z}
 use mir.ValLaws.{to_z-of_z, to_z_pos}
 use borrow.Author.Rules.{rules}
 use borrow.Author.Tests.{le-leb, lt-leb}
 use Rattle.refusal.specs.Refusal.{number_of}
-use Rattle.refusal.specs.Said.{gives}
-use Rattle.newtons.specs.Effect.{signed, itself, said_held}
-use Rattle.newtons.proofs.Values.{Is, Fields, fields_of, not_nan, nan_value, zero_value, below_one, infinite, large_value, large_size, fraction_value, whole_value}
+use Rattle.refusal.specs.Said.{gives, said}
+use Rattle.newtons.specs.Effect.{signed}
+use Rattle.newtons.proofs.Values.{Is, Fields, fields_of, nan_value, zero_value, below_one, infinite, large_value, large_size, fraction_value, whole_value}
 use Rattle.newtons.proofs.Limits.{held_none, held_large, held_whole, held_signed}
 use Rattle.newtons.proofs.value_of.Goals as goal
-use Rattle.newtons.proofs.value_of.Goals.{Else-is_large, Else-has_fraction, Start}
+use Rattle.newtons.proofs.value_of.Goals.{Else-is_large, Else-has_fraction}
 
-abbrev bits : Start → ℕ
-bits c = to_bits binary64 c.args.x
-
-fields : (c : Start) → Fields c.args.x (leb (2 ^ 63) (bits c)) (bits c % 2 ^ 63 / 2 ^ 52) (bits c % 2 ^ 52)
-fields c = fields_of c.args.x (search rules)
+abbrev bits : Float → ℕ
+bits x = to_bits binary64 x
 
 -- the code's 1 << k
 one-is : (k : ℕ) → k < 64 → 1 * 2 ^ k % 2 ^ 64 ≡ 2 ^ k
@@ -55,43 +53,42 @@ negative_fits n h = subst (λ (z : ℤ). SFits w64 z) (sym (negative-is n h)) (g
     go zero h = record { sfits = lit< tt }
     go (suc n) h = record { sfits = omega (arith, h) }
 
-pub returns-then-x : goal.returns-then-x
-unfolding said_held number_of
-returns-then-x c = sym (held_none (nan_value c.args.x c.if-x.true))
-
-pub float_to_bits-bits : goal.float_to_bits-bits
-float_to_bits-bits c = not_nan c.args.x c.if-x.false
+pub returns-then-is_nan : goal.returns-then-is_nan
+unfolding said number_of
+returns-then-is_nan c = sym (held_none (nan_value c.args.x (sym c.is_nan.ensures.value ∙ c.if-is_nan.true)))
 
 pub returns-then-is_zero : goal.returns-then-is_zero
-unfolding said_held number_of
+unfolding said
 returns-then-is_zero c =
-    sym (held_whole (zero_value (fields (goal.at.returns-then-is_zero c).Start) (omega (arith, c.if-is_zero.true)) (omega (arith, c.if-is_zero.true))) (lit< tt))
+    sym (held_whole (zero_value (fields_of c.args.x (search rules)) (omega (arith, c.if-is_zero.true)) (omega (arith, c.if-is_zero.true))) (lit< tt))
 
 pub returns-then-exponent-lt1023 : goal.returns-then-exponent-lt1023
-unfolding said_held number_of
+unfolding said number_of
 returns-then-exponent-lt1023 c =
-    let t = (goal.at.returns-then-exponent-lt1023 c).Start in
-    sym (held_none (below_one (fields t) (not_zero (bits t) c.if-is_zero.false) c.if-exponent-lt1023.true))
+    sym (held_none (below_one (fields_of c.args.x (search rules)) (not_zero (bits c.args.x) c.if-is_zero.false) c.if-exponent-lt1023.true))
 
 pub returns-then-exponent-eq-INFINITE : goal.returns-then-exponent-eq-INFINITE
-unfolding said_held number_of
-returns-then-exponent-eq-INFINITE c = sym (held_none (infinite (fields (goal.at.returns-then-exponent-eq-INFINITE c).Start) c.if-exponent-eq-INFINITE.true))
+unfolding said number_of
+returns-then-exponent-eq-INFINITE c = sym (held_none (infinite (fields_of c.args.x (search rules)) c.if-exponent-eq-INFINITE.true))
 
 pub returns-then-is_large : goal.returns-then-is_large
-unfolding said_held number_of
+unfolding said
 returns-then-is_large c =
-    sym (held_large (large_value (fields (goal.at.returns-then-is_large c).Start) c.if-is_large.true c.if-exponent-eq-INFINITE.false) (large_size _ _ (omega (arith, c.if-is_large.true))))
+    sym (held_large (large_value (fields_of c.args.x (search rules)) c.if-is_large.true c.if-exponent-eq-INFINITE.false) (large_size _ _ (omega (arith, c.if-is_large.true))))
 
 pub nonzero_rem-has_fraction : goal.nonzero_rem-has_fraction
 nonzero_rem-has_fraction c = one-positive _ (omega arith)
 
 -- past the tests of the exponent
 module _ (c : Else-is_large) where
-  abbrev start : Start
-  start = c.before.before.before.before.before
+  abbrev x : Float
+  x = c.args.x
 
   abbrev exponent : ℕ
-  exponent = bits start % 2 ^ 63 / 2 ^ 52
+  exponent = bits x % 2 ^ 63 / 2 ^ 52
+
+  fields : Fields x (leb (2 ^ 63) (bits x)) exponent (bits x % 2 ^ 52)
+  fields = fields_of x (search rules)
 
   above : 0 < exponent
   above = omega (arith, c.if-exponent-lt1023.false)
@@ -103,21 +100,21 @@ module _ (c : Else-is_large) where
   one = one-is (1075 - exponent) (omega (arith, c.if-exponent-lt1023.false))
 
 pub returns-then-has_fraction : goal.returns-then-has_fraction
-unfolding said_held number_of
+unfolding said number_of
 returns-then-has_fraction c =
     let t = (goal.at.returns-then-has_fraction c).Else-is_large in
-    sym (held_none (fraction_value (fields (start t)) (above t) (upto t) (one t) (λ q. omega (arith, c.if-has_fraction.true))))
+    sym (held_none (fraction_value (fields t) (above t) (upto t) (one t) (λ q. omega (arith, c.if-has_fraction.true))))
 
 -- the size is whole, and below 2^53
 module _ (c : Else-has_fraction) where
   abbrev size : ℕ
-  size = (2 ^ 52 + bits (start c.before) % 2 ^ 52) / (1 * 2 ^ (1075 - exponent c.before) % 2 ^ 64)
+  size = (2 ^ 52 + bits c.args.x % 2 ^ 52) / (1 * 2 ^ (1075 - exponent c.before) % 2 ^ 64)
 
-  is : Is (start c.before).args.x (leb (2 ^ 63) (bits (start c.before))) size
-  is = whole_value (fields (start c.before)) (above c.before) (upto c.before) (one c.before) (omega (arith, c.if-has_fraction.false))
+  is : Is c.args.x (leb (2 ^ 63) (bits c.args.x)) size
+  is = whole_value (fields c.before) (above c.before) (upto c.before) (one c.before) (omega (arith, c.if-has_fraction.false))
 
   small : size < 2 ^ 53
-  small = lt_of_le_of_lt (div-le_self (2 ^ 52 + bits (start c.before) % 2 ^ 52) _) (omega arith)
+  small = lt_of_le_of_lt (div-le_self (2 ^ 52 + bits c.args.x % 2 ^ 52) _) (omega arith)
 
   size_fits : SFits w64 (pos size)
   size_fits = record { sfits = lt_of_lt_of_le small (lit≤ tt) }
@@ -132,18 +129,18 @@ pub overflow_sub-result : goal.overflow_sub-result
 overflow_sub-result c = negative_fits _ (small (goal.at.overflow_sub-result c).Else-has_fraction)
 
 pub returns-then-is_negative : goal.returns-then-is_negative
-unfolding signed said_held
+unfolding signed said
 returns-then-is_negative c =
     let t = (goal.at.returns-then-is_negative c).Else-has_fraction in
     let l = small t in
-    ap (λ (z : ℤ). gives (itself z)) (to_z-of_z w64 _ (negative_fits _ l) ∙ negative-is _ l) ∙ sym (held_signed (is t) l true (le-leb _ _ c.if-is_negative.true))
+    ap (λ (z : ℤ). gives (Some z)) (to_z-of_z w64 _ (negative_fits _ l) ∙ negative-is _ l) ∙ sym (held_signed (is t) l true (le-leb _ _ c.if-is_negative.true))
 
 pub overflow_cast-result-2 : goal.overflow_cast-result-2
 overflow_cast-result-2 c = size_fits (goal.at.overflow_cast-result-2 c).Else-has_fraction
 
 pub returns : goal.returns
-unfolding signed said_held
+unfolding signed said
 returns c =
     let t = (goal.at.returns c).Else-has_fraction in
     let l = small t in
-    ap (λ (z : ℤ). gives (itself z)) (positive-is _ l) ∙ sym (held_signed (is t) l false (lt-leb _ _ c.if-is_negative.false))
+    ap (λ (z : ℤ). gives (Some z)) (positive-is _ l) ∙ sym (held_signed (is t) l false (lt-leb _ _ c.if-is_negative.false))
