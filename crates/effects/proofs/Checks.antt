@@ -1,19 +1,19 @@
 -- The check of the seven effects, one step over any of them. Assumes nothing.
 use mathlib.Core.Path.{◌≡◌, refl, subst}
 use mathlib.Core.List.{List, [], ◌∷◌, ◌++◌}
-use Prim.Native.Nat.{ℕ, zero, suc, ◌+◌, ◌≤◌, ◌<◌}
+use Prim.Native.Nat.{ℕ, zero, suc, ◌+◌, ◌≤◌}
 use native.Mathlib.Nat.{le_trans}
-use native.Mathlib.Numerals.{add-one}
 use native.Mathlib.Omega.{arith}
 use lib.Dec.{lit≤}
 use lib.IntN.{ℤ, nat_abs}
 use lib.Ieee.{Float, binary64, of_int}
-use lib.ListN.{length, get_or, take, drop, set, length-append, drop_of_length-le}
-use lib.Seq.{take_all, drop-cons, take-suc-set}
-use Rattle.effects.specs.declared.Effects.{Effects}
-use Rattle.effects.specs.declared.Newtons.{Newtons}
+use lib.ListN.{length, length-append}
+use Rattle.effects.specs.declared.PerLoad.{PerLoad}
 use Rattle.effects.specs.declared.LoadEffect.{LoadEffect}
-use Rattle.refusal.specs.Said.{Told, gives, refused}
+use Rattle.std.specs.Prelude.{Ok, Err}
+use Rattle.refusal.specs.declared.Refused.{Refused}
+use Rattle.refusal.specs.Refusal.{number_of}
+use Rattle.refusal.specs.Said.{Told, gives, refused, told}
 use Rattle.newtons.specs.Effect.{limit, effect_of}
 use Rattle.effects.specs.Check.{load_effect, listed, newtons_of, if_given, checked_from, checked_of}
 use Rattle.effects.specs.theorems.Doubles.{doubles_of}
@@ -21,27 +21,33 @@ use Rattle.effects.specs.inner.Sized.{EachAtMost, Sized, Seven}
 use Rattle.newtons.proofs.Values.{value_back}
 use Rattle.newtons.proofs.Limits.{effect_whole, effect_within}
 
-pub listed_length : (e : Effects) → length (listed e) ≡ 7
-unfolding listed
-listed_length e = refl
+-- ---- a step: the first of the effects that are left is taken, and the rest checked, or it is refused
 
--- ---- a step: the effect at an index is taken or refused
+module _ (taken : List ℤ) (e : LoadEffect) (es : List LoadEffect) where
+  pub goes_on : (z : ℤ) {t : Told LoadEffect (List ℤ)} → told {B = LoadEffect} (Ok z) ≡ if_given e (effect_of e.double) (λ y. gives y)
+      → checked_from (taken ++ (z ∷ [])) es ≡ t → checked_from taken (e ∷ es) ≡ t
+  unfolding told checked_from if_given
+  goes_on z {t} h k = go (effect_of e.double) h
+    where
+      go : (f : Told Float ℤ) → gives z ≡ if_given e f (λ y. gives y) → if_given e f (λ y. checked_from (taken ++ (y ∷ [])) es) ≡ t
+      go (gives y) h = let q : y ≡ z = cc in rw q k
+      go (refused n x) h = let q : ◌≡◌ {A = ℕ} 0 1 = cc in absurd (omega arith)
 
-module _ (es : List LoadEffect) (i : ℕ) (d : LoadEffect) (h : i < length es) where
-  pub check_taken : (whole : List ℤ) {z : ℤ} → i < length whole → effect_of (get_or es i d).double ≡ gives z
-      → checked_from (take i whole) (drop i es) ≡ checked_from (take (i + 1) (set whole i z)) (drop (i + 1) es)
-  unfolding checked_from if_given
-  check_taken whole {z} k e = rw (drop-cons es i d h, e, add-one i, take-suc-set whole i z k)
-
-  pub check_refused : (taken : List ℤ) {n : ℕ} {x : Float} → effect_of (get_or es i d).double ≡ refused n x
-      → checked_from taken (drop i es) ≡ refused n (load_effect (get_or es i d).load x)
-  unfolding checked_from if_given
-  check_refused taken e = rw (drop-cons es i d h, e)
+  pub ends : (r : Refused LoadEffect) → told {A = ℤ} (Err r) ≡ if_given e (effect_of e.double) (λ y. gives y) → checked_from taken (e ∷ es) ≡ refused (number_of r.refusal) r.back
+  unfolding told checked_from if_given
+  ends r h = go (effect_of e.double) h
+    where
+      go : (f : Told Float ℤ) → refused (number_of r.refusal) r.back ≡ if_given e f (λ y. gives y) → if_given e f (λ y. checked_from (taken ++ (y ∷ [])) es) ≡ refused (number_of r.refusal) r.back
+      go (gives y) h = let q : ◌≡◌ {A = ℕ} 0 1 = cc in absurd (omega arith)
+      go (refused n x) h =
+          let p : number_of r.refusal ≡ n = cc in
+          let q : r.back ≡ load_effect e.load x = cc in
+          cc
 
 -- past the last all are taken
-pub check_end : (whole : List ℤ) (es : List LoadEffect) (i : ℕ) → length whole ≤ i → length es ≤ i → checked_from (take i whole) (drop i es) ≡ gives whole
+pub all_taken : (taken : List ℤ) → checked_from taken [] ≡ gives taken
 unfolding checked_from
-check_end whole es i h k = rw (take_all i whole h, drop_of_length-le es {i = i} k)
+all_taken taken = refl
 
 -- ---- the whole numbers taken are within the limit
 
@@ -68,7 +74,7 @@ all_kept taken (l ∷ es) {xs} f e =
         subst (λ (m : ℕ). Sized m limit xs) n (rest z (w z refl) p)
     go (refused n x) w rest p = let z : ◌≡◌ {A = ℕ} 0 1 = cc in omega arith
 
-pub checked_seven : (e : Effects) {xs : List ℤ} → checked_of e ≡ gives xs → Seven limit xs
+pub checked_seven : (e : PerLoad Float) {xs : List ℤ} → checked_of e ≡ gives xs → Seven limit xs
 unfolding checked_of listed
 checked_seven e h = all_kept [] (listed e) (λ i. omega arith) h
 
@@ -76,7 +82,7 @@ checked_seven e h = all_kept [] (listed e) (λ i. omega arith) h
 pub double_taken : (z : ℤ) → nat_abs z ≤ limit → effect_of (of_int binary64 z) ≡ gives z
 double_taken z h = effect_whole (of_int binary64 z) (value_back z (le_trans h (lit≤ tt))) h
 
-pub doubles_taken : (n : Newtons) → Seven limit (newtons_of n) → checked_of (doubles_of n) ≡ gives (newtons_of n)
+pub doubles_taken : (n : PerLoad ℤ) → Seven limit (newtons_of n) → checked_of (doubles_of n) ≡ gives (newtons_of n)
 unfolding checked_of checked_from if_given listed newtons_of doubles_of
 doubles_taken n s =
     rw (

@@ -6,9 +6,5 @@ ghost use Rattle.newtons.specs.Effect.{magnitude_of};
 pub fn magnitude(n: i64) -> u64
     ensures { result ≡ magnitude_of n }
 {
-    if n < 0 {
-        // One more than that of the next number, since the least number has no opposite.
-        return (-(n + 1)) as u64 + 1;
-    }
-    n as u64
+    n.unsigned_abs()
 }

@@ -1,95 +1,67 @@
--- `effects::check` meets its contract: going on from index i with the numbers taken gives what the whole check gives. Assumes nothing.
-use mathlib.Core.Path.{◌≡◌, refl, sym, ◌∙◌, ap}
-use mathlib.Core.List.{List, []}
-use Prim.Native.Nat.{ℕ, ◌<◌}
-use native.Mathlib.Omega.{arith}
-use lib.Dec.{lit<}
-use lib.IntN.{ℤ}
-use lib.Ieee.{Float}
-use lib.ListN.{length, get_or, take, drop}
+-- `effects::check` meets its contract: each load in turn is taken, and the next checked, or the answer is its refusal. Assumes nothing.
+use Rattle.std.proofs.Common.{◌≡◌, sym, rules}
+use Rattle.std.specs.Prelude.{Result, List, ℤ}
+use Rattle.std.specs.Result.{IsErrAnd}
+use Rattle.std.proofs.lemmas.Result.{err_from_is_err_and}
+use Rattle.refusal.specs.declared.Refused.{Refused}
+use Rattle.refusal.specs.Refusal.{number_of}
+use Rattle.refusal.specs.Said.{Told, refused}
+use Rattle.effects.specs.declared.PerLoad.{PerLoad}
 use Rattle.effects.specs.declared.LoadEffect.{LoadEffect}
-use Rattle.refusal.specs.Said.{gives, refused}
-use Rattle.newtons.specs.Effect.{effect_of, said_effect}
-use Rattle.effects.specs.Check.{load_effect, checked_from, checked_of, said_checked}
-use Rattle.newtons.proofs.Limits.{effect_within}
-use Rattle.newtons.proofs.Word.{kept}
-use Rattle.effects.proofs.Sevens.{seven_zeros, seven_set}
-use Rattle.effects.proofs.Checks.{listed_length, check_taken, check_refused, check_end}
+use Rattle.effects.specs.Check.{listed, newtons_of, checked_of, said_checked}
+use mir.Syntax.{w64}
+use mir.ValLaws.{to_z-of_z}
+use Rattle.effects.proofs.Checks.{goes_on, ends, all_taken}
 use Rattle.effects.proofs.check.Goals as goal
-use Rattle.effects.proofs.check.Goals.{After-listed_of-listed, After-whole_of, Start}
 
-pub listed_of-listed-requires : goal.listed_of-listed-requires
-listed_of-listed-requires c = tt
+-- the exit of a `?` says the refusal of the load
+exits : (r : Refused LoadEffect) {t : Told LoadEffect (List ℤ)} (m : Result (PerLoad ℤ) (Refused LoadEffect)) → IsErrAnd m (λ y. y ≡ r) → t ≡ refused (number_of r.refusal) r.back → said_checked m ≡ t
+unfolding said_checked
+exits r m h e = let p = err_from_is_err_and m h in rw (p.1, p.2) (sym e)
 
-pub loop-i-init : goal.loop-i-init
-loop-i-init c = (omega arith, seven_zeros, refl)
+pub returns-in_err-dead : goal.returns-in_err-dead
+unfolding checked_of listed
+returns-in_err-dead c =
+    exits _ c.from_residual.result c.from_residual.ensures.1 (ends _ _ _ _ c.in_err-dead.ensures)
 
-pub whole_of-requires : goal.whole_of-requires
-whole_of-requires c = tt
+pub returns-in_err-live : goal.returns-in_err-live
+unfolding checked_of listed
+returns-in_err-live c =
+    exits _ c.from_residual-in_err-live.result c.from_residual-in_err-live.ensures.1 (goes_on _ _ _ _ c.in_ok-dead.ensures (ends _ _ _ _ c.in_err-live.ensures))
 
-pub refused-requires : goal.refused-requires
-refused-requires c = tt
+pub returns-in_err-roof : goal.returns-in_err-roof
+unfolding checked_of listed
+returns-in_err-roof c =
+    exits _ c.from_residual-in_err-roof.result c.from_residual-in_err-roof.ensures.1 (goes_on _ _ _ _ c.in_ok-dead.ensures (goes_on _ _ _ _ c.in_ok-live.ensures (ends _ _ _ _ c.in_err-roof.ensures)))
 
-all_listed : (c : After-listed_of-listed) → checked_from [] c.listed_of-listed.result ≡ checked_of c.args.effects
-unfolding checked_of
-all_listed c = ap (checked_from []) c.listed_of-listed.ensures
+pub returns-in_err-snow : goal.returns-in_err-snow
+unfolding checked_of listed
+returns-in_err-snow c =
+    exits _ c.from_residual-in_err-snow.result c.from_residual-in_err-snow.ensures.1 (goes_on _ _ _ _ c.in_ok-dead.ensures (goes_on _ _ _ _ c.in_ok-live.ensures (goes_on _ _ _ _ c.in_ok-roof.ensures (ends _ _ _ _ c.in_err-snow.ensures))))
 
--- what the check gives where the effect at index i is as it is found
-module _ (c : After-whole_of) where
-  abbrev start : Start
-  start = c.before.before.before.before.before
+pub returns-in_err-rain : goal.returns-in_err-rain
+unfolding checked_of listed
+returns-in_err-rain c =
+    exits _ c.from_residual-in_err-rain.result c.from_residual-in_err-rain.ensures.1 (goes_on _ _ _ _ c.in_ok-dead.ensures (goes_on _ _ _ _ c.in_ok-live.ensures (goes_on _ _ _ _ c.in_ok-roof.ensures (goes_on _ _ _ _ c.in_ok-snow.ensures (ends _ _ _ _ c.in_err-rain.ensures)))))
 
-  abbrev es : List LoadEffect
-  es = c.listed_of-listed.result
+pub returns-in_err-wind : goal.returns-in_err-wind
+unfolding checked_of listed
+returns-in_err-wind c =
+    exits _ c.from_residual-in_err-wind.result c.from_residual-in_err-wind.ensures.1 (goes_on _ _ _ _ c.in_ok-dead.ensures (goes_on _ _ _ _ c.in_ok-live.ensures (goes_on _ _ _ _ c.in_ok-roof.ensures (goes_on _ _ _ _ c.in_ok-snow.ensures (goes_on _ _ _ _ c.in_ok-rain.ensures (ends _ _ _ _ c.in_err-wind.ensures))))))
 
-  abbrev i : ℕ
-  i = c.loop-i.i
-
-  abbrev whole : List ℤ
-  whole = c.loop-i.whole
-
-  room : i < length es
-  room = omega (arith, ap {B = ℕ} length c.listed_of-listed.ensures, listed_length start.args.effects)
-
-  goes_on : checked_from (take i whole) (drop i es) ≡ checked_of start.args.effects
-  goes_on = c.loop-i.invariant.2 ∙ all_listed c.before.before.before.before
-
-  refuses : (d : LoadEffect) {n : ℕ} {x : Float} → effect_of (get_or es i d).double ≡ refused n x → refused n (load_effect (get_or es i d).load x) ≡ checked_of start.args.effects
-  refuses d e = sym (check_refused es i d room (take i whole) e) ∙ goes_on
-
-pub returns-in-NotWhole : goal.returns-in-NotWhole
-unfolding said_effect
-returns-in-NotWhole c =
-    c.refused.ensures ∙ refuses (goal.at.returns-in-NotWhole c).After-whole_of _ (sym c.whole_of.ensures ∙ ap said_effect c.in-NotWhole.is)
-
-pub refused-requires-in-Beyond : goal.refused-requires-in-Beyond
-refused-requires-in-Beyond c = tt
-
-pub returns-in-Beyond : goal.returns-in-Beyond
-unfolding said_effect
-returns-in-Beyond c =
-    c.refused-in-Beyond.ensures ∙ refuses (goal.at.returns-in-Beyond c).After-whole_of _ (sym c.whole_of.ensures ∙ ap said_effect c.in-Beyond.is)
-
-pub loop-i-preserved : goal.loop-i-preserved
-unfolding said_effect
-loop-i-preserved c =
-    let t = (goal.at.loop-i-preserved c).After-whole_of in
-    let n = c.in-Whole.n in
-    let e : effect_of (get_or (es t) (i t) _).double ≡ gives n = sym c.whole_of.ensures ∙ ap said_effect c.in-Whole.is in
-    let in-limit = effect_within _ n e in
-    rw (kept in-limit (lit< tt)) (
-      omega arith,
-      seven_set (whole t) (i t) n c.loop-i.invariant.1 in-limit,
-      sym (check_taken (es t) (i t) _ (room t) (whole t) (omega (arith, c.loop-i.invariant.1.count)) e) ∙ c.loop-i.invariant.2,
-    )
-
-pub newtons_of-requires : goal.newtons_of-requires
-newtons_of-requires c = c.loop-i.invariant.1
+pub returns-in_err-quake : goal.returns-in_err-quake
+unfolding checked_of listed
+returns-in_err-quake c =
+    exits _ c.from_residual-in_err-quake.result c.from_residual-in_err-quake.ensures.1 (goes_on _ _ _ _ c.in_ok-dead.ensures (goes_on _ _ _ _ c.in_ok-live.ensures (goes_on _ _ _ _ c.in_ok-roof.ensures (goes_on _ _ _ _ c.in_ok-snow.ensures (goes_on _ _ _ _ c.in_ok-rain.ensures (goes_on _ _ _ _ c.in_ok-wind.ensures (ends _ _ _ _ c.in_err-quake.ensures)))))))
 
 pub returns : goal.returns
-unfolding said_checked
+unfolding checked_of listed newtons_of said_checked
 returns c =
-    let es = c.listed_of-listed.result in
-    let count = ap {B = ℕ} length c.listed_of-listed.ensures ∙ listed_length c.args.effects in
-    ap gives c.newtons_of.ensures
-    ∙ (sym (check_end c.loop-i.whole es c.loop-i.i (omega (arith, c.loop-i.invariant.1.count)) (omega (arith, count))) ∙ (c.loop-i.invariant.2 ∙ all_listed (goal.at.returns c).After-listed_of-listed))
+    let dead = to_z-of_z w64 c.in_ok-dead.dead (search rules) in
+    let live = to_z-of_z w64 c.in_ok-live.live (search rules) in
+    let roof = to_z-of_z w64 c.in_ok-roof.roof (search rules) in
+    let snow = to_z-of_z w64 c.in_ok-snow.snow (search rules) in
+    let rain = to_z-of_z w64 c.in_ok-rain.rain (search rules) in
+    let wind = to_z-of_z w64 c.in_ok-wind.wind (search rules) in
+    let quake = to_z-of_z w64 c.in_ok-quake.quake (search rules) in
+    simp (dead, live, roof, snow, rain, wind, quake) (sym (goes_on _ _ _ _ c.in_ok-dead.ensures (goes_on _ _ _ _ c.in_ok-live.ensures (goes_on _ _ _ _ c.in_ok-roof.ensures (goes_on _ _ _ _ c.in_ok-snow.ensures (goes_on _ _ _ _ c.in_ok-rain.ensures (goes_on _ _ _ _ c.in_ok-wind.ensures (goes_on _ _ _ _ c.in_ok-quake.ensures (all_taken _)))))))))

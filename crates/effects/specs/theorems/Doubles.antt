@@ -2,11 +2,11 @@
 -- Assumes nothing.
 use Rattle.std.specs.Float.{binary64}
 use Rattle.std.specs.Float.Ieee.{of_int}
-use Rattle.effects.specs.declared.Effects.{Effects}
-use Rattle.effects.specs.declared.Newtons.{Newtons}
+use Rattle.std.specs.Prelude.{ℤ, Float}
+use Rattle.effects.specs.declared.PerLoad.{PerLoad}
 
 -- whole newtons handed over as doubles
-unfoldable pub doubles_of : Newtons → Effects
+unfoldable pub doubles_of : PerLoad ℤ → PerLoad Float
 doubles_of n =
     record {
       dead = of_int binary64 n.dead;
