@@ -6,16 +6,18 @@ use Prim.Native.Nat.{ℕ, zero, suc, ◌^◌, ◌≤◌, ◌<◌}
 use native.Mathlib.Nat.{le_trans}
 use native.Mathlib.Omega.{arith}
 use lib.Dec.{lit≤}
-use lib.IntN.{ℤ, pos, nat_abs}
+use lib.IntN.{ℤ, nat_abs}
+use lib.Ieee.{Float}
+use Rattle.std.specs.Prelude.{map}
 use lib.ListN.{length, get_or}
 use borrow.Author.Tests.{le-leb}
 use Rattle.effects.specs.declared.Load.{Load}
-use Rattle.effects.specs.declared.Effects.{Effects}
-use Rattle.effects.specs.declared.Newtons.{Newtons}
+use Rattle.effects.specs.declared.Load.TheVariants.{Dead}
+use Rattle.effects.specs.declared.PerLoad.{PerLoad}
 use Rattle.effects.specs.declared.LoadEffect.{LoadEffect}
 use Rattle.refusal.specs.Said.{Told, gives, refused}
 use Rattle.newtons.specs.Effect.{limit, within}
-use Rattle.effects.specs.Check.{loads, newtons_of, checked_of}
+use Rattle.effects.specs.Check.{loads, of_load, newtons_of, checked_of}
 use Rattle.effects.specs.theorems.Doubles.{doubles_of}
 use Rattle.effects.specs.inner.Sized.{EachAtMost, Seven}
 use Rattle.combination.specs.declared.Governing.{Governing}
@@ -48,15 +50,21 @@ pub rows_exact : (Back : Type 0) (xs : List ℤ) → Seven limit xs → NothingL
 unfolding governing NothingLost
 rows_exact Back xs X = (exact greater_order xs X, exact less_order xs X)
 
--- 9 and the load at an index, where the number there is the first beyond the limit
-pub first_beyond : (ls : List Load) (zs : List ℤ) (g : Governing) (i : ℕ) (d : Load) → i < length ls → i < length zs
-    → ((k : ℕ) → k < i → nat_abs (get_or zs k (pos 0)) ≤ limit) → within (get_or zs i (pos 0)) ≡ false → limited_from ls zs g ≡ refused 9 (get_or ls i d)
-unfolding limited_from
-first_beyond [] zs g i d h k f e = absurd (omega arith)
-first_beyond (l ∷ ls) [] g i d h k f e = absurd (omega arith)
-first_beyond (l ∷ ls) (z ∷ zs) g zero d h k f e = rw e
-first_beyond (l ∷ ls) (z ∷ zs) g (suc i) d h k f e =
-    rw (le-leb (nat_abs z) limit (f 0 (omega arith))) (first_beyond ls zs g i d (omega arith) (omega arith) (λ j p. f (suc j) (omega arith)) e)
+-- 9 and the load at an index, where the number of that load is the first beyond the limit
+module _ (n : PerLoad ℤ) where
+  pub first_beyond : (ls : List Load) (g : Governing) (i : ℕ) → i < length ls → ((k : ℕ) → k < i → nat_abs (of_load n (get_or ls k Dead)) ≤ limit)
+      → within (of_load n (get_or ls i Dead)) ≡ false → limited_from ls (map (of_load n) ls) g ≡ refused 9 (get_or ls i Dead)
+  unfolding limited_from
+  first_beyond [] g i h f e = absurd (omega arith)
+  first_beyond (l ∷ ls) g zero h f e = rw e refl
+  first_beyond (l ∷ ls) g (suc i) h f e =
+      rw (le-leb (nat_abs (of_load n l)) limit (f 0 (omega arith))) (first_beyond ls g i (omega arith) (λ k p. f (suc k) (omega arith)) e)
+
+  -- where the number of each load is within it, they all are
+  pub all_within : (ls : List Load) → ((k : ℕ) → k < length ls → nat_abs (of_load n (get_or ls k Dead)) ≤ limit) → EachAtMost limit (map (of_load n) ls)
+  all_within [] f i = omega arith
+  all_within (l ∷ ls) f zero = f 0 (omega arith)
+  all_within (l ∷ ls) f (suc i) = all_within ls (λ k p. f (suc k) (omega arith)) i
 
 -- none is beyond it
 none_beyond : (ls : List Load) (zs : List ℤ) (g : Governing) → EachAtMost limit zs → limited_from ls zs g ≡ gives g
@@ -70,20 +78,20 @@ pub seven_governed : (xs : List ℤ) → Seven limit xs → governed xs ≡ give
 unfolding governed
 seven_governed xs s = none_beyond loads xs (governing xs) s.each
 
-pub newtons_governed : (n : Newtons) → Seven limit (newtons_of n) → governed (newtons_of n) ≡ gives (governing (newtons_of n))
+pub newtons_governed : (n : PerLoad ℤ) → Seven limit (newtons_of n) → governed (newtons_of n) ≡ gives (governing (newtons_of n))
 newtons_governed n s = seven_governed (newtons_of n) s
 
 -- what the check takes governs as it is
-pub checked_governed : (e : Effects) (xs : List ℤ) → checked_of e ≡ gives xs → combined_of e ≡ gives (governing xs)
+pub checked_governed : (e : PerLoad Float) (xs : List ℤ) → checked_of e ≡ gives xs → combined_of e ≡ gives (governing xs)
 unfolding combined_of combined with_double
 checked_governed e xs h = ap (combined e) h ∙ ap (with_double e) (seven_governed xs (checked_seven e h))
 
 -- so whole newtons within the limit, handed over as doubles, have the governing rows of these numbers
-pub newtons_combined : (n : Newtons) → Seven limit (newtons_of n) → combined_of (doubles_of n) ≡ gives (governing (newtons_of n))
+pub newtons_combined : (n : PerLoad ℤ) → Seven limit (newtons_of n) → combined_of (doubles_of n) ≡ gives (governing (newtons_of n))
 newtons_combined n s = checked_governed (doubles_of n) (newtons_of n) (doubles_taken n s)
 
 -- the double of each governing sum has the sum as its value
-pub nothing_lost : (e : Effects) → NothingLost (combined_of e)
+pub nothing_lost : (e : PerLoad Float) → NothingLost (combined_of e)
 unfolding combined_of combined NothingLost
 nothing_lost e = go (checked_of e) refl
   where
@@ -92,5 +100,5 @@ nothing_lost e = go (checked_of e) refl
     go (refused n x) h = subst⁻¹ NothingLost (ap (combined e) h) tt
 
 -- so an answer that says what the definition says promises both
-pub promised : (e : Effects) {t : Told LoadEffect Governing} → t ≡ combined_of e → (t ≡ combined_of e) × NothingLost t
+pub promised : (e : PerLoad Float) {t : Told LoadEffect Governing} → t ≡ combined_of e → (t ≡ combined_of e) × NothingLost t
 promised e h = (h, subst⁻¹ NothingLost h (nothing_lost e))

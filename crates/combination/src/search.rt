@@ -178,29 +178,13 @@ fn row_of(best: Best) -> GoverningRow
     }
 }
 
-// The effects in the order of the table's columns.
-#[tactic(auto, unfolding(effects::specs::Check::newtons_of))]
-pub fn listed_newtons(newtons: Newtons) -> [i64; 7]
-    ensures { result ≡ newtons_of newtons }
-{
-    [
-        newtons.dead,
-        newtons.live,
-        newtons.roof,
-        newtons.snow,
-        newtons.rain,
-        newtons.wind,
-        newtons.quake,
-    ]
-}
-
 // The rows with the greatest and the least sum; compiled into its callers, as `govern` is.
 #[inline(always)]
 pub fn governing_of(newtons: Newtons) -> Governing
     requires { Seven limit (newtons_of newtons) }
     ensures { result ≡ governing (newtons_of newtons) }
 {
-    let sums = sums_of(listed_newtons(newtons));
+    let sums = sums_of(newtons.in_order());
     Governing {
         greatest: row_of(best_of(true, &sums)),
         least: row_of(best_of(false, &sums)),

@@ -1,73 +1,45 @@
--- `combination::govern` meets its contract: before index i no number is beyond the limit. Assumes nothing.
-use mathlib.Core.Path.{◌≡◌, refl, sym, ◌∙◌, ap, subst, subst⁻¹}
-use mathlib.Core.Bool.{Bool}
-use mathlib.Core.List.{List}
-use Prim.Native.Nat.{ℕ, ◌≤◌, ◌<◌}
-use native.Mathlib.Omega.{arith}
-use lib.IntN.{ℤ, pos, nat_abs}
-use lib.ListN.{length, get_or}
+-- `combination::govern` meets its contract: before the load at an index no number is beyond the limit. Assumes nothing.
+use Rattle.std.proofs.Common.{◌≡◌, refl, sym, ◌∙◌, ap, rules, arith, Bool}
+use mathlib.Core.Path.{subst⁻¹}
+use lib.IntN.{ℤ}
 use mir.Syntax.{w64}
 use mir.Val.{SFits, to_z, of_z}
 use mir.ValLaws.{to_z-of_z}
 use Rattle.refusal.specs.Refusal.{number_of}
-use Rattle.refusal.specs.Said.{gives, refused}
+use Rattle.refusal.specs.Said.{gives, told}
 use Rattle.newtons.specs.Effect.{limit, within}
 use Rattle.effects.specs.declared.Load.{Load}
-use Rattle.effects.specs.declared.Load.TheVariants.{Dead}
 use Rattle.effects.specs.Check.{loads, newtons_of}
 use Rattle.effects.specs.inner.Sized.{Seven}
-use Rattle.effects.proofs.Sevens.{each_below}
 use Rattle.combination.specs.declared.Governing.{Governing}
-use Rattle.combination.specs.Combine.{governing, limited_from, governed, said_governed, NothingLost}
-use Rattle.combination.proofs.Governs.{below_more}
-use Rattle.combination.proofs.Answers.{rows_exact, first_beyond, newtons_governed}
-use borrow.Author.Rules.{rules}
-use borrow.Author.Tests.{leb-true}
+use Rattle.combination.specs.Combine.{governing, governed, NothingLost}
+use Rattle.combination.proofs.Answers.{rows_exact, first_beyond, all_within, newtons_governed}
 use Rattle.combination.proofs.govern.Goals as goal
-use Rattle.combination.proofs.govern.Goals.{After-loop-i}
+use Rattle.combination.proofs.govern.Goals.{After-loop-load}
 
 -- what the code's test says of the number that it is of
-tested : (z : ℤ) {b t : Bool} → SFits w64 z → b ≡ within (to_z w64 (of_z w64 z)) → b ≡ t → within z ≡ t
-tested z f e h = ap within (sym (to_z-of_z w64 z f)) ∙ (sym e ∙ h)
+tested : (z : ℤ) {y : ℤ} {b t : Bool} → SFits w64 z → z ≡ y → b ≡ within (to_z w64 (of_z w64 z)) → b ≡ t → within y ≡ t
+tested z f q e h = ap within (sym q) ∙ (ap within (sym (to_z-of_z w64 z f)) ∙ (sym e ∙ h))
 
 -- past the loop all seven are within the limit
-all-within : (c : After-loop-i) → Seven limit (newtons_of c.args.newtons)
+seven : (c : After-loop-load) → Seven limit (newtons_of c.args.newtons)
 unfolding newtons_of
-all-within c =
-    let loop = c.loop-i in
-    let i : loop.i ≡ 7 = omega arith in
-    record { count = refl; each = each_below (newtons_of c.args.newtons) (λ (k : ℕ) (h : k < 7). subst (λ (zs : List ℤ). nat_abs (get_or zs k (pos 0)) ≤ limit) c.listed_newtons-effects.ensures (loop.invariant.1 k (omega arith))) }
-
-pub loop-i-init : goal.loop-i-init
-loop-i-init c = (omega arith, λ k h. omega arith)
+seven c = record { count = refl; each = all_within c.args.newtons loads (λ k h. c.loop-load.invariant k (omega arith)) }
 
 pub returns-then-not-is_within : goal.returns-then-not-is_within
-unfolding said_governed number_of governed NothingLost
+unfolding told number_of governed newtons_of NothingLost
 returns-then-not-is_within c =
-    let zs = c.listed_newtons-effects.result in
-    let n = c.listed_newtons-effects.ensures in
-    let beyond = tested (get_or zs c.loop-i.i (pos 0)) (search rules) c.is_within.ensures c.if-not-is_within.true in (
-      ap (refused 9) c.load_at.ensures
-          ∙ (sym (first_beyond loads zs (governing zs) c.loop-i.i Dead (omega arith) (omega (arith, ap {B = ℕ} length n)) c.loop-i.invariant.1 beyond)
-          ∙ ap (λ (xs : List ℤ). limited_from loads xs (governing xs)) n),
-      tt,
-    )
-
-pub loop-i-preserved : goal.loop-i-preserved
-loop-i-preserved c =
-    let zs = c.listed_newtons-effects.result in
-    let in-limit = tested (get_or zs c.loop-i.i (pos 0)) (search rules) c.is_within.ensures c.if-not-is_within.false in (
-      omega arith,
-      λ k h. below_more c.loop-i.i (λ j. nat_abs (get_or zs j (pos 0)) ≤ limit) c.loop-i.invariant.1 (leb-true _ limit in-limit) k (omega arith),
-    )
+    let n = c.args.newtons in
+    let beyond = tested c.of.result (search rules) c.of.ensures c.is_within.ensures c.if-not-is_within.true in
+    (sym (first_beyond n loads (governing (newtons_of n)) c.loop-load.load-index (omega arith) c.loop-load.invariant beyond), tt)
 
 pub governing_of-requires : goal.governing_of-requires
-governing_of-requires c = all-within (goal.at.governing_of-requires c).After-loop-i
+governing_of-requires c = seven (goal.at.governing_of-requires c).After-loop-load
 
 pub returns : goal.returns
-unfolding said_governed
+unfolding told
 returns c =
-    let s = all-within (goal.at.returns c).After-loop-i in (
+    let s = seven (goal.at.returns c).After-loop-load in (
       ap gives c.governing_of.ensures ∙ sym (newtons_governed _ s),
       subst⁻¹ (λ (g : Governing). NothingLost {Back = Load} (gives g)) c.governing_of.ensures (rows_exact Load _ s),
     )

@@ -1,12 +1,10 @@
--- `combination::govern` meets its contract: before index i no number is beyond the limit. Assumes nothing.
-use Prim.Native.Nat.{ℕ, ◌-◌, ◌≤◌, ◌<◌}
-use lib.IntN.{pos, nat_abs}
-use lib.ListN.{get_or}
+-- `combination::govern` meets its contract: before the load at an index no number is beyond the limit. Assumes nothing.
+use Rattle.std.proofs.Common.{ℕ, ◌<◌, ◌≤◌, get_or}
+use lib.IntN.{nat_abs}
 use Rattle.newtons.specs.Effect.{limit}
+use Rattle.effects.specs.declared.Load.TheVariants.{Dead}
+use Rattle.effects.specs.Check.{loads, of_load}
 use Rattle.combination.proofs.govern.Given as goal
 
-abbrev pub invariant-loop-i : goal.invariant-loop-i
-invariant-loop-i l = (l.i ≤ 7) × ((k : ℕ) → k < l.i → nat_abs (get_or l.effects k (pos 0)) ≤ limit)
-
-abbrev pub decreases-loop-i : goal.decreases-loop-i
-decreases-loop-i l = 7 - l.i
+abbrev pub invariant-loop-load : goal.invariant-loop-load
+invariant-loop-load l = (k : ℕ) → k < l.load-index → nat_abs (of_load l.newtons (get_or loads k Dead)) ≤ limit

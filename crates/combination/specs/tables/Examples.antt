@@ -1,7 +1,7 @@
 -- Paper 01's combination cases: the effects in newtons, and the sums and rows that govern.
 -- Assumes nothing.
 use Rattle.std.specs.Prelude.{◌≡◌, List, [], ◌∷◌, ℤ, pos}
-use Rattle.effects.specs.declared.Newtons.{Newtons}
+use Rattle.effects.specs.declared.PerLoad.{PerLoad}
 use Rattle.refusal.specs.Said.{gives}
 use Rattle.effects.specs.theorems.Doubles.{doubles_of}
 use Rattle.combination.specs.declared.search.Best.{Best}
@@ -9,12 +9,12 @@ use Rattle.combination.specs.Combine.{row_of, combined_of}
 
 -- a case: the effects, and the rows with the greatest and the least sum
 pub record Example : Type 0 where
-  pub newtons : Newtons
+  pub newtons : PerLoad ℤ
   pub greatest : Best
   pub least : Best
 
 -- dead, live and wind, the rest 0
-abbrev newtons : ℤ → ℤ → ℤ → Newtons
+abbrev newtons : ℤ → ℤ → ℤ → PerLoad ℤ
 newtons d l w = record { dead = d; live = l; roof = pos 0; snow = pos 0; rain = pos 0; wind = w; quake = pos 0 }
 
 -- 01, Figures to check against, and The sheet: its cases
