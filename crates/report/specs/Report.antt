@@ -10,7 +10,7 @@ use Rattle.column.specs.Line.{lowest_floor}
 use Rattle.column.specs.Column.{lines_of}
 use Rattle.figure.specs.Asked.{asked}
 use Rattle.figure.specs.Lowest.{lowest_figure}
-use Rattle.effects.specs.declared.Newtons.{Newtons}
+use Rattle.effects.specs.declared.PerLoad.{PerLoad}
 use Rattle.effects.specs.Check.{newtons_of}
 use Rattle.combination.specs.declared.GoverningRow.{GoverningRow}
 use Rattle.combination.specs.declared.Governing.{Governing}
@@ -48,13 +48,13 @@ unfoldable pub live_of : Column → ℕ
 live_of c = (lowest_figure c.member (lines_of c) + 99) / 100
 
 -- 01, The sheet: the six effects of a sheet, "one a line", with the live effect among them
-unfoldable pub effects_with : List ℤ → ℕ → Newtons
+unfoldable pub effects_with : List ℤ → ℕ → PerLoad ℤ
 effects_with es live =
     let at : ℕ → ℤ = λ k. get_or es k (pos 0) in
     record { dead = at 0; live = pos live; roof = at 1; snow = at 2; rain = at 3; wind = at 4; quake = at 5 }
 
 -- 01, The sheet: the seven effects of a sheet, its six and "the live effect"
-unfoldable pub effects_of : Sheet → Newtons
+unfoldable pub effects_of : Sheet → PerLoad ℤ
 effects_of s = effects_with s.effects (live_of s.column)
 
 -- 01, The sheet: "max and min are tenths"; a governing sum and its row

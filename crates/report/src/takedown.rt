@@ -12,7 +12,6 @@ ghost use Rattle.report.specs.inner.Table.{sheet_from, line_of, working_after, t
 
 use crate::lines;
 use column::{Member, Places};
-use combination::Governed;
 use effects::Newtons;
 use figure::{NUMBERS, Table, Working};
 use reduction::InfluenceArea;
@@ -88,15 +87,12 @@ fn put_governing(to: &mut [u8], at: usize, effects: [i64; EFFECTS], live: u64) -
     requires { EffectsWithin effects × (live ≤ limit) }
     ensures { out to.new result ≡ puts to.old at (governing_lines (governing (newtons_of (effects_with effects live)))) }
 {
-    let governed = combination::govern(newtons_with(effects, live));
-    match governed {
-        Governed::Governs(governing) => {
-            let greatest = governing.greatest;
-            let least = governing.least;
-            let next = lines::put_governing_line(to, at, b"max=", greatest);
-            lines::put_governing_line(to, next, b"min=", least)
+    match combination::govern(newtons_with(effects, live)) {
+        Ok(governing) => {
+            let next = lines::put_governing_line(to, at, b"max=", governing.greatest);
+            lines::put_governing_line(to, next, b"min=", governing.least)
         }
-        Governed::Beyond(_) => at,
+        Err(_) => at,
     }
 }
 

@@ -15,10 +15,9 @@ use Rattle.lists.specs.Lists.{none, more}
 use Rattle.newtons.specs.Effect.{value_of, signed, effect_of}
 use Rattle.newtons.proofs.Limits.{effect_whole}
 use Rattle.effects.specs.declared.LoadEffect.{LoadEffect}
-use Rattle.effects.specs.declared.Newtons.{Newtons}
-use Rattle.effects.specs.declared.RefusedEffect.{RefusedEffect}
-use Rattle.effects.specs.declared.Checked.{Checked}
-use Rattle.effects.specs.declared.Checked.TheVariants as C
+use Rattle.effects.specs.declared.PerLoad.{PerLoad}
+use Rattle.std.specs.Prelude.{Result, Ok, Err}
+use Rattle.refusal.specs.declared.Refused.{Refused}
 use Rattle.effects.specs.declared.Load.TheVariants.{Dead, Live}
 use Rattle.effects.specs.Check.{load_effect, listed, newtons_of, if_given, checked_from, checked_of, said_checked}
 use Rattle.effects.proofs.Checks.{checked_seven}
@@ -78,13 +77,13 @@ unfolding six_checked six_listed checked_of listed
 six_among_seven e =
     sym (ap without_live (among (load_effect Dead e.dead) (load_effect Live no_effect.double) _ zero_taken) ∙ back (six_checked e))
 
-module _ (e : SheetDoubles) {r : Checked} (says : said_checked r ≡ checked_of (seven_of e)) where
+module _ (e : SheetDoubles) {r : Result (PerLoad ℤ) (Refused LoadEffect)} (says : said_checked r ≡ checked_of (seven_of e)) where
   -- whole numbers within the limit, which are then those of the sheet
-  pub six_whole : {n : Newtons} → r ≡ C.Whole n → six_checked e ≡ gives (six_of n)
+  pub six_whole : {n : PerLoad ℤ} → r ≡ Ok n → six_checked e ≡ gives (six_of n)
   unfolding said_checked newtons_of without_live
   six_whole {n} q = six_among_seven e ∙ ap without_live (sym says ∙ ap said_checked q)
 
-  pub six_within : {n : Newtons} → r ≡ C.Whole n → EffectsWithin (six_of n)
+  pub six_within : {n : PerLoad ℤ} → r ≡ Ok n → EffectsWithin (six_of n)
   unfolding said_checked newtons_of
   six_within {n} q =
       let s = checked_seven (seven_of e) {xs = newtons_of n} (sym says ∙ ap said_checked q) in
@@ -94,16 +93,16 @@ module _ (e : SheetDoubles) {r : Checked} (says : said_checked r ≡ checked_of 
       }
 
   -- or the first effect that is refused
-  six_refused : {q : RefusedEffect} → r ≡ C.Refused q → six_checked e ≡ refused (number_of q.refusal) q.effect
+  six_refused : {q : Refused LoadEffect} → r ≡ Err q → six_checked e ≡ refused (number_of q.refusal) q.back
   unfolding said_checked without_live
   six_refused {q} h = six_among_seven e ∙ ap without_live (sym says ∙ ap said_checked h)
 
   -- and what writing gives then
-  pub saving_whole : (c : Column) (room : ℕ) {n : Newtons} → r ≡ C.Whole n → saving c e room ≡ if_room room (written (sheet_from c n))
+  pub saving_whole : (c : Column) (room : ℕ) {n : PerLoad ℤ} → r ≡ Ok n → saving c e room ≡ if_room room (written (sheet_from c n))
   unfolding saving if_whole
   saving_whole c room h = rw (six_whole h)
 
-  pub saving_refused : (c : Column) (room : ℕ) {q : RefusedEffect} → r ≡ C.Refused q → saving c e room ≡ refused (number_of q.refusal) (placed q.effect)
+  pub saving_refused : (c : Column) (room : ℕ) {q : Refused LoadEffect} → r ≡ Err q → saving c e room ≡ refused (number_of q.refusal) (placed q.back)
   unfolding saving if_whole
   saving_refused c room h = rw (six_refused h)
 

@@ -14,7 +14,7 @@ use Rattle.text.proofs.Decimal.{length_most}
 use Rattle.text.proofs.Sign.{signed_below, signed_from_zero, signed_length}
 use Rattle.lists.specs.Lists.{All, none, more}
 use Rattle.newtons.specs.Effect.{magnitude_of, limit}
-use Rattle.effects.specs.declared.Newtons.{Newtons}
+use Rattle.effects.specs.declared.PerLoad.{PerLoad}
 use Rattle.column.specs.declared.Line.{Line}
 use Rattle.column.specs.Column.{lines_of}
 use Rattle.column.specs.inner.Sound.{InLimits}
@@ -58,7 +58,7 @@ effects_more : (key : List ℕ) (keys : List (List ℕ)) (z : ℤ) (zs : List �
 unfolding effects_parts
 effects_more key keys z zs = omega (arith, joined_length (effect_parts key z) (effects_parts keys zs), effect_length key z)
 
-pub effects_length : (n : Newtons)
+pub effects_length : (n : PerLoad ℤ)
     → length (joined (effects_parts effect_keys (six_of n)))
     ≡ 37
     + (length (signed_decimal n.dead) + length (signed_decimal n.roof) + length (signed_decimal n.snow))

@@ -10,7 +10,7 @@ use Rattle.text.specs.Text.{bytes_of, joined, decimal, signed_parts, signed_deci
 use Rattle.text.specs.Lines.{newline, ended, text_of}
 use Rattle.text.proofs.Puts.{joined_append}
 use Rattle.text.proofs.Lines.{text_append}
-use Rattle.effects.specs.declared.Newtons.{Newtons}
+use Rattle.effects.specs.declared.PerLoad.{PerLoad}
 use Rattle.column.specs.declared.Line.{Line}
 use Rattle.column.specs.Column.{lines_of}
 use Rattle.column.specs.inner.Sound.{line_at, lines_before}
@@ -60,7 +60,7 @@ effects_text (key ∷ keys) [] = refl
 effects_text (key ∷ keys) (z ∷ zs) = joined_append (effect_parts key z) (effects_parts keys zs) ∙ rw (effect_text_lem key z, effects_text keys zs)
 
 -- the six effects of seven, one after another
-pub effects_parts_lem : (n : Newtons)
+pub effects_parts_lem : (n : PerLoad ℤ)
     → effects_parts effect_keys (six_of n)
     ≡ effect_parts (bytes_of "dead=") n.dead
     ++ (effect_parts (bytes_of "roof=") n.roof

@@ -13,8 +13,8 @@ ghost use Rattle.sheet_writer.specs.Saving.{sheet_place, placed, no_effect, if_r
 ghost use Rattle.sheet_writer.specs.inner.Parts.{seven_of, sheet_from};
 
 use column::{Member, Places};
-use effects::{Checked, Effects, Load, Newtons, RefusedEffect};
-use refusal::Refusal;
+use effects::{Effects, Load, LoadEffect, Newtons};
+use refusal::{Refusal, Refused};
 
 mod lengths;
 mod lines;
@@ -76,11 +76,11 @@ fn seven_of(effects: SheetDoubles) -> Effects
 }
 
 // The answer that refuses an effect.
-fn refused_effect(first: RefusedEffect) -> Written
-    ensures { result ≡ saved_of (refused (number_of first.refusal) (placed first.effect)) }
+fn refused_effect(first: Refused<LoadEffect>) -> Written
+    ensures { result ≡ saved_of (refused (number_of first.refusal) (placed first.back)) }
 {
     let refusal = first.refusal;
-    let effect = first.effect;
+    let effect = first.back;
     let load = effect.load;
     Written {
         number: refusal::number(refusal),
@@ -154,9 +154,8 @@ pub fn write(
     ensures out_after { out.new ≡ fronted (saved_text (saving (column_from member count held.now) effects (length out.old))) out.old }
     ensures prefix_len { IsPrefixLen result.length out.new }
 {
-    let checked = effects::check(seven_of(effects));
-    match checked {
-        Checked::Whole(newtons) => write_whole(held, member, count, newtons, out),
-        Checked::Refused(refused) => refused_effect(refused),
+    match effects::check(seven_of(effects)) {
+        Ok(newtons) => write_whole(held, member, count, newtons, out),
+        Err(refused) => refused_effect(refused),
     }
 }

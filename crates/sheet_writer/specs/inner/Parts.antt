@@ -1,10 +1,9 @@
 -- The text of a sheet as the parts that are put one after another, and the six effects among seven.
 -- Assumes nothing.
-use Rattle.std.specs.Prelude.{List, [], ◌∷◌, ◌++◌, ℕ, ℤ}
+use Rattle.std.specs.Prelude.{List, [], ◌∷◌, ◌++◌, ℕ, ℤ, Float}
 use Rattle.text.specs.Text.{decimal, signed_parts}
 use Rattle.text.specs.Lines.{newline}
-use Rattle.effects.specs.declared.Effects.{Effects}
-use Rattle.effects.specs.declared.Newtons.{Newtons}
+use Rattle.effects.specs.declared.PerLoad.{PerLoad}
 use Rattle.column.specs.declared.Line.{Line}
 use Rattle.column.specs.declared.Column.{Column}
 use Rattle.column.specs.Column.{lines_of}
@@ -15,14 +14,14 @@ use Rattle.sheet_writer.specs.declared.SheetDoubles.{SheetDoubles}
 use Rattle.sheet_writer.specs.Saving.{no_effect}
 
 -- the six effects with a live effect of 0 among them; six of seven whole numbers; and a sheet with them
-abbrev pub seven_of : SheetDoubles → Effects
+abbrev pub seven_of : SheetDoubles → PerLoad Float
 seven_of e =
     record { dead = e.dead; live = no_effect.double; roof = e.roof; snow = e.snow; rain = e.rain; wind = e.wind; quake = e.quake }
 
-abbrev pub six_of : Newtons → List ℤ
+abbrev pub six_of : PerLoad ℤ → List ℤ
 six_of n = n.dead ∷ n.roof ∷ n.snow ∷ n.rain ∷ n.wind ∷ n.quake ∷ []
 
-abbrev pub sheet_from : Column → Newtons → Sheet
+abbrev pub sheet_from : Column → PerLoad ℤ → Sheet
 sheet_from c n = record { column = c; effects = six_of n }
 
 -- numbers behind their keys, and the newline
