@@ -24,7 +24,7 @@ const LOADS: [Load; 7] = [
 
 // A row that governs, 1 to 25: its sum in tenths of a newton, and the same as a double.
 #[repr(C)]
-#[derive(Clone, Copy)]
+#[derive(Clone, Copy, Default)]
 pub struct GoverningRow {
     pub row: u64,
     pub tenths: i64,
@@ -33,7 +33,7 @@ pub struct GoverningRow {
 
 // The rows with the greatest and the least sum.
 #[repr(C)]
-#[derive(Clone, Copy)]
+#[derive(Clone, Copy, Default)]
 pub struct Governing {
     pub greatest: GoverningRow,
     pub least: GoverningRow,

@@ -30,7 +30,6 @@ impl Load {
 }
 
 // A number for each of the seven loads.
-#[repr(C)]
 #[derive(Clone, Copy)]
 pub struct PerLoad<T> {
     pub dead: T,

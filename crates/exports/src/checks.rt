@@ -1,59 +1,96 @@
 // The check of seven effects for programs in C and Rust.
 ghost use Rattle.std.specs.Prelude.{◌≡◌};
-ghost use Rattle.effects.specs.Check.{checked_of};
-ghost use Rattle.exports.specs.Exported.{no_newtons, handed_out, shown_checked};
+ghost use Rattle.effects.specs.Check.{newtons_of, checked_of};
+ghost use Rattle.exports.specs.Exported.{handed_in, listed_newtons, handed_out, shown_checked};
 
-use effects::{Checked, Effects, Newtons};
+use effects::{Effects, Newtons, PerLoad};
+
+// The effects of seven loads as doubles. C hands over no generic struct, so this and the next are two.
+#[repr(C)]
+#[derive(Clone, Copy)]
+pub struct BungeroEffects {
+    pub dead: f64,
+    pub live: f64,
+    pub roof: f64,
+    pub snow: f64,
+    pub rain: f64,
+    pub wind: f64,
+    pub quake: f64,
+}
+
+// The same in whole newtons.
+#[repr(C)]
+#[derive(Clone, Copy, Default)]
+pub struct BungeroNewtons {
+    pub dead: i64,
+    pub live: i64,
+    pub roof: i64,
+    pub snow: i64,
+    pub rain: i64,
+    pub wind: i64,
+    pub quake: i64,
+}
+
+impl From<BungeroEffects> for Effects {
+    ghost from_gives = { λ given effects. effects ≡ handed_in given };
+
+    #[tactic(auto, unfolding(crate::specs::Exported::handed_in))]
+    fn from(given: BungeroEffects) -> Effects {
+        PerLoad {
+            dead: given.dead,
+            live: given.live,
+            roof: given.roof,
+            snow: given.snow,
+            rain: given.rain,
+            wind: given.wind,
+            quake: given.quake,
+        }
+    }
+}
+
+impl From<Newtons> for BungeroNewtons {
+    ghost from_gives = { λ newtons given. listed_newtons given ≡ newtons_of newtons };
+
+    #[tactic(auto, unfolding(crate::specs::Exported::listed_newtons, effects::specs::Check::newtons_of))]
+    fn from(newtons: Newtons) -> BungeroNewtons {
+        BungeroNewtons {
+            dead: newtons.dead,
+            live: newtons.live,
+            roof: newtons.roof,
+            snow: newtons.snow,
+            rain: newtons.rain,
+            wind: newtons.wind,
+            quake: newtons.quake,
+        }
+    }
+}
 
 // What checking gives: the paper's number, 0 where none holds; the place of the refused effect, 1 for
 // dead to 7 for quake, and its double as it came; or the effects in whole newtons. The rest is 0.
 #[repr(C)]
-#[derive(Clone, Copy)]
+#[derive(Clone, Copy, Default)]
 pub struct BungeroChecked {
     pub number: u64,
     pub place: u64,
     pub double: f64,
-    pub newtons: Newtons,
-}
-
-// What stands for the effects where one is refused.
-fn no_newtons() -> Newtons
-    ensures { result ≡ no_newtons }
-{
-    Newtons {
-        dead: 0,
-        live: 0,
-        roof: 0,
-        snow: 0,
-        rain: 0,
-        wind: 0,
-        quake: 0,
-    }
+    pub newtons: BungeroNewtons,
 }
 
 // Checks seven effects.
 #[unsafe(no_mangle)]
-pub extern "C" fn bungero_check(effects: Effects) -> BungeroChecked
-    ensures { handed_out result ≡ shown_checked (checked_of effects) }
+pub extern "C" fn bungero_check(effects: BungeroEffects) -> BungeroChecked
+    ensures { handed_out result ≡ shown_checked (checked_of (handed_in effects)) }
 {
-    let checked = effects::check(effects);
-    match checked {
-        Checked::Whole(newtons) => BungeroChecked {
-            number: 0,
-            place: 0,
-            double: 0.0,
-            newtons: newtons,
+    match effects::check(effects.into()) {
+        Ok(newtons) => BungeroChecked {
+            newtons: newtons.into(),
+            ..BungeroChecked::default()
         },
-        Checked::Refused(refused) => {
-            let refusal = refused.refusal;
-            let effect = refused.effect;
-            let load = effect.load;
-            BungeroChecked {
-                number: refusal::number(refusal),
-                place: effects::place(load),
-                double: effect.double,
-                newtons: no_newtons(),
-            }
-        }
+        Err(refused) => BungeroChecked {
+            number: refused.refusal.number(),
+            place: refused.back.load.place(),
+            double: refused.back.double,
+            ..BungeroChecked::default()
+        },
     }
 }

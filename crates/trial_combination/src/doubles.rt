@@ -3,51 +3,24 @@ ghost use Rattle.std.specs.Prelude.{◌≡◌, length};
 ghost use Rattle.std.specs.Float.{binary64};
 ghost use Rattle.std.specs.Float.Ieee.{nan_bits};
 
-use effects::{Effects, Newtons};
+use effects::PerLoad;
 
-// Bits, and whether all their digits are digits.
-#[derive(Clone, Copy)]
-pub struct ReadBits {
-    pub well: bool,
-    pub bits: u64,
+// The value of a digit.
+fn digit(byte: u8) -> Option<u8> {
+    match byte {
+        b'0'..=b'9' => Some(byte - b'0'),
+        b'a'..=b'f' => Some(byte - b'a' + 10),
+        _ => None,
+    }
 }
 
-// A double, and the same.
-#[derive(Clone, Copy)]
-pub struct ReadDouble {
-    pub well: bool,
-    pub double: f64,
-}
-
-// Seven of them, in the order of checking.
-#[derive(Clone, Copy)]
-pub struct ReadEffects {
-    pub well: bool,
-    pub effects: Effects,
-}
-
-// Seven whole numbers, in the same order.
-#[derive(Clone, Copy)]
-pub struct ReadNewtons {
-    pub well: bool,
-    pub newtons: Newtons,
-}
-
-// The value of a digit, 16 where it is none.
-fn digit(byte: u8) -> u64 {
-    if byte < b'0' {
-        return 16;
+// The bits with these digits.
+fn bits_from(digits: &[u8]) -> Option<u64> {
+    let mut bits = 0u64;
+    for byte in digits {
+        bits = bits << 4 | u64::from(digit(*byte)?);
     }
-    if byte <= b'9' {
-        return (byte - b'0') as u64;
-    }
-    if byte < b'a' {
-        return 16;
-    }
-    if byte <= b'f' {
-        return (byte - b'a') as u64 + 10;
-    }
-    16
+    Some(bits)
 }
 
 // Whether some bits are those of a NaN.
@@ -60,97 +33,32 @@ fn is_nan(bits: u64) -> bool
     bits % 0x10_0000_0000_0000 != 0
 }
 
-// The double of some bits; there is one NaN here for all the patterns of NaN.
-fn double_of(bits: u64) -> f64 {
+// The double with these digits; there is one NaN here for all the patterns of NaN.
+pub fn double_from(digits: &[u8]) -> Option<f64> {
+    let bits = bits_from(digits)?;
     if is_nan(bits) {
-        let zero = 0.0f64;
-        return zero / zero;
+        return Some(f64::NAN);
     }
-    f64::from_bits(bits)
+    Some(f64::from_bits(bits))
 }
 
-// The whole number of some bits, in two's complement.
-fn whole_of(bits: u64) -> i64 {
-    if bits < 0x8000_0000_0000_0000 {
-        return bits as i64;
-    }
-    -((0xffff_ffff_ffff_ffff - bits) as i64) - 1
+// The whole number with these digits, in two's complement.
+pub fn whole_from(digits: &[u8]) -> Option<i64> {
+    Some(bits_from(digits)?.cast_signed())
 }
 
-// The bits with these digits.
-fn bits_from(digits: &[u8]) -> ReadBits {
-    let mut bits = 0u64;
-    let mut well = true;
-    let mut i = 0;
-    while i < digits.len() {
-        let d = digit(digits[i]);
-        if d == 16 {
-            well = false;
-        }
-        bits = bits % 0x1000_0000_0000_0000 * 16 + d % 16;
-        i += 1;
-    }
-    ReadBits {
-        well: well,
-        bits: bits,
-    }
-}
-
-// The double with these digits.
-pub fn double_from(digits: &[u8]) -> ReadDouble {
-    let read = bits_from(digits);
-    ReadDouble {
-        well: read.well,
-        double: double_of(read.bits),
-    }
-}
-
-// Seven doubles, parted by single bytes.
-pub fn effects_from(text: &[u8]) -> ReadEffects
-    requires { length text.now ≡ 118 }
+// What is read for each of the seven loads, parted by single bytes.
+pub fn seven_from<T: Copy, F: Fn(&[u8]) -> Option<T>>(text: &[u8], read: F) -> Option<PerLoad<T>>
+    requires seven { length text.now ≡ 118 }
+    requires reads { F.IsAlwaysCallable read }
 {
-    let dead = double_from(&text[0..16]);
-    let live = double_from(&text[17..33]);
-    let roof = double_from(&text[34..50]);
-    let snow = double_from(&text[51..67]);
-    let rain = double_from(&text[68..84]);
-    let wind = double_from(&text[85..101]);
-    let quake = double_from(&text[102..118]);
-    ReadEffects {
-        well: dead.well & live.well & roof.well & snow.well & rain.well & wind.well & quake.well,
-        effects: Effects {
-            dead: dead.double,
-            live: live.double,
-            roof: roof.double,
-            snow: snow.double,
-            rain: rain.double,
-            wind: wind.double,
-            quake: quake.double,
-        },
-    }
-}
-
-// Seven whole numbers, parted by single bytes.
-pub fn newtons_from(text: &[u8]) -> ReadNewtons
-    requires { length text.now ≡ 118 }
-{
-    let dead = bits_from(&text[0..16]);
-    let live = bits_from(&text[17..33]);
-    let roof = bits_from(&text[34..50]);
-    let snow = bits_from(&text[51..67]);
-    let rain = bits_from(&text[68..84]);
-    let wind = bits_from(&text[85..101]);
-    let quake = bits_from(&text[102..118]);
-    ReadNewtons {
-        well: dead.well & live.well & roof.well & snow.well & rain.well & wind.well & quake.well,
-        newtons: Newtons {
-            dead: whole_of(dead.bits),
-            live: whole_of(live.bits),
-            roof: whole_of(roof.bits),
-            snow: whole_of(snow.bits),
-            rain: whole_of(rain.bits),
-            wind: whole_of(wind.bits),
-            quake: whole_of(quake.bits),
-        },
-    }
+    Some(PerLoad {
+        dead: read(&text[0..16])?,
+        live: read(&text[17..33])?,
+        roof: read(&text[34..50])?,
+        snow: read(&text[51..67])?,
+        rain: read(&text[68..84])?,
+        wind: read(&text[85..101])?,
+        quake: read(&text[102..118])?,
+    })
 }

@@ -3,8 +3,7 @@
 // reckoning's.
 #![tactic(auto)]
 
-ghost use Rattle.std.specs.Prelude.{◌≡◌, length};
-
+use print::Answer;
 use std::io;
 use std::io::{BufWriter, Read, Write};
 
@@ -14,58 +13,32 @@ mod print;
 // More than the stored questions take.
 const ROOM: usize = 1048576;
 
-// Answers the line of a question about seven effects: `combine` and doubles. Gives whether it is one.
-fn answer_combine<W: Write>(out: &mut W, line: &[u8]) -> io::Result<bool>
-    requires { length line.now ≡ 126 }
-{
-    let given = doubles::effects_from(&line[8..126]);
-    if line[0] != b'c' {
-        return Ok(false);
+// What a line asks, told by its length and first letter: `whole` and a double, `combine` and seven, or
+// `govern` and seven whole numbers.
+fn answer_of(line: &[u8]) -> Option<Answer> {
+    match (line.first()?, line.len()) {
+        (b'w', 22) => {
+            let double = doubles::double_from(&line[6..22])?;
+            Some(Answer::Whole(newtons::whole_of(double)))
+        }
+        (b'c', 126) => {
+            let effects = doubles::seven_from(&line[8..126], doubles::double_from)?;
+            Some(Answer::Combine(combination::combine(effects)))
+        }
+        (b'g', 125) => {
+            let newtons = doubles::seven_from(&line[7..125], doubles::whole_from)?;
+            Some(Answer::Govern(combination::govern(newtons)))
+        }
+        _ => None,
     }
-    if given.well {
-        let effects = given.effects;
-        print::print_combined(out, combination::combine(effects))?;
-    }
-    Ok(given.well)
 }
 
-// The same of `govern` and whole numbers.
-fn answer_govern<W: Write>(out: &mut W, line: &[u8]) -> io::Result<bool>
-    requires { length line.now ≡ 125 }
-{
-    let given = doubles::newtons_from(&line[7..125]);
-    if line[0] != b'g' {
-        return Ok(false);
-    }
-    if given.well {
-        let newtons = given.newtons;
-        print::print_governed(out, combination::govern(newtons))?;
-    }
-    Ok(given.well)
-}
-
-// Answers one line, told by its length and first letter: `whole` and a double, `combine` and seven, or
-// `govern` and seven whole numbers. A line that asks nothing is `unread`.
+// Answers one line. One that asks nothing is `unread`.
 fn answer<W: Write>(out: &mut W, line: &[u8]) -> io::Result<()> {
-    if line.len() == 22 {
-        let given = doubles::double_from(&line[6..22]);
-        if line[0] == b'w' {
-            if given.well {
-                return print::print_effect(out, newtons::whole_of(given.double));
-            }
-        }
+    match answer_of(line) {
+        Some(answer) => writeln!(out, "{answer}"),
+        None => writeln!(out, "unread"),
     }
-    if line.len() == 126 {
-        if answer_combine(out, line)? {
-            return Ok(());
-        }
-    }
-    if line.len() == 125 {
-        if answer_govern(out, line)? {
-            return Ok(());
-        }
-    }
-    print::unread(out)
 }
 
 // Answers every line of a text, the last with or without its newline.

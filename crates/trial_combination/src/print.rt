@@ -1,121 +1,94 @@
-// Prints answers, a line each.
-use combination::{Combined, Governed, Governing, GoverningRow};
-use effects::{Load, RefusedEffect};
-use newtons::Effect;
-use refusal::Refusal;
-use std::io;
-use std::io::Write;
+// The answers, as they are printed.
+use combination::{Governing, GoverningRow};
+use effects::{Load, LoadEffect};
+use refusal::Refused;
+use std::fmt;
 
-// Writes a text.
-fn write<W: Write>(out: &mut W, text: &[u8]) -> io::Result<()> {
-    out.write_all(text)
+// What a question is answered with, by its word.
+#[derive(Drop)]
+pub enum Answer {
+    Whole(Result<i64, Refused<f64>>),
+    Combine(Result<Governing, Refused<LoadEffect>>),
+    Govern(Result<Governing, Refused<Load>>),
 }
 
-// A line that asks nothing.
-pub fn unread<W: Write>(out: &mut W) -> io::Result<()> {
-    write(out, b"unread\n")
-}
+// A double by its bits; a NaN's cannot be read here.
+#[derive(Drop)]
+struct Bits(f64);
 
-// Writes a whole number, a negative one with its sign.
-fn write_whole<W: Write>(out: &mut W, n: i64) -> io::Result<()> {
-    if n < 0 {
-        write(out, b"-")?;
-    }
-    let magnitude = newtons::signed::magnitude(n);
-    write!(out, "{magnitude}")
-}
+// A row that governs.
+#[derive(Drop)]
+struct Row(GoverningRow);
 
-// Writes the bits of a double; a NaN's cannot be read here.
-fn write_double<W: Write>(out: &mut W, x: f64) -> io::Result<()> {
-    write(out, b" double=")?;
-    if x != x {
-        return write(out, b"nan");
-    }
-    let bits = f64::to_bits(x);
-    write!(out, "{bits:016x}")
-}
+// The rows that govern.
+#[derive(Drop)]
+struct Rows(Governing);
 
-// Writes the number of a refusal.
-fn write_refusal<W: Write>(out: &mut W, refusal: Refusal) -> io::Result<()> {
-    let number = refusal::number(refusal);
-    write!(out, "refused={number}")
-}
-
-// Prints the whole number that a double is, or why it is refused.
-pub fn print_effect<W: Write>(out: &mut W, effect: Effect) -> io::Result<()> {
-    match effect {
-        Effect::Whole(n) => {
-            write(out, b"whole=")?;
-            write_whole(out, n)?;
-        }
-        Effect::NotWhole(x) => {
-            write_refusal(out, Refusal::EffectNotWhole)?;
-            write_double(out, x)?;
-        }
-        Effect::Beyond(x) => {
-            write_refusal(out, Refusal::EffectOutOfRange)?;
-            write_double(out, x)?;
-        }
-    }
-    write(out, b"\n")
-}
-
-// Writes which effect it is, by its load's key on the sheet.
-fn write_effect<W: Write>(out: &mut W, load: Load) -> io::Result<()> {
-    write(out, b" effect=")?;
+// The key of a load on the sheet.
+fn key(load: Load) -> &'static str {
     match load {
-        Load::Dead => write(out, b"dead"),
-        Load::Live => write(out, b"live"),
-        Load::Roof => write(out, b"roof"),
-        Load::Snow => write(out, b"snow"),
-        Load::Rain => write(out, b"rain"),
-        Load::Wind => write(out, b"wind"),
-        Load::Quake => write(out, b"quake"),
+        Load::Dead => "dead",
+        Load::Live => "live",
+        Load::Roof => "roof",
+        Load::Snow => "snow",
+        Load::Rain => "rain",
+        Load::Wind => "wind",
+        Load::Quake => "quake",
     }
 }
 
-// Writes a refused effect.
-fn write_refused<W: Write>(out: &mut W, refused: RefusedEffect) -> io::Result<()> {
-    let refusal = refused.refusal;
-    let effect = refused.effect;
-    let load = effect.load;
-    write_refusal(out, refusal)?;
-    write_effect(out, load)?;
-    write_double(out, effect.double)
-}
-
-// Writes a row that governs under its name.
-fn write_row<W: Write>(out: &mut W, name: &[u8], row: GoverningRow) -> io::Result<()> {
-    write(out, name)?;
-    write_whole(out, row.tenths)?;
-    let number = row.row;
-    write!(out, " row={number}")?;
-    write_double(out, row.double)
-}
-
-// Writes the rows that govern.
-fn write_rows<W: Write>(out: &mut W, governing: Governing) -> io::Result<()> {
-    write_row(out, b"max=", governing.greatest)?;
-    write_row(out, b" min=", governing.least)
-}
-
-// Prints the rows that govern, or the effect that is refused.
-pub fn print_combined<W: Write>(out: &mut W, combined: Combined) -> io::Result<()> {
-    match combined {
-        Combined::Governs(governing) => write_rows(out, governing)?,
-        Combined::Refused(refused) => write_refused(out, refused)?,
+impl fmt::Display for Bits {
+    fn fmt<W: fmt::Write>(&self, f: &mut fmt::Formatter<W>) -> fmt::Result {
+        if self.0.is_nan() {
+            return write!(f, "nan");
+        }
+        let bits = self.0.to_bits();
+        write!(f, "{bits:016x}")
     }
-    write(out, b"\n")
 }
 
-// Prints the rows that govern, or the load whose effect is beyond the limit.
-pub fn print_governed<W: Write>(out: &mut W, governed: Governed) -> io::Result<()> {
-    match governed {
-        Governed::Governs(governing) => write_rows(out, governing)?,
-        Governed::Beyond(load) => {
-            write_refusal(out, Refusal::EffectOutOfRange)?;
-            write_effect(out, load)?;
+impl fmt::Display for Row {
+    fn fmt<W: fmt::Write>(&self, f: &mut fmt::Formatter<W>) -> fmt::Result {
+        write!(
+            f,
+            "{} row={} double={}",
+            self.0.tenths,
+            self.0.row,
+            Bits(self.0.double)
+        )
+    }
+}
+
+impl fmt::Display for Rows {
+    fn fmt<W: fmt::Write>(&self, f: &mut fmt::Formatter<W>) -> fmt::Result {
+        write!(f, "max={} min={}", Row(self.0.greatest), Row(self.0.least))
+    }
+}
+
+impl fmt::Display for Answer {
+    fn fmt<W: fmt::Write>(&self, f: &mut fmt::Formatter<W>) -> fmt::Result {
+        match *self {
+            Answer::Whole(Ok(n)) => write!(f, "whole={n}"),
+            Answer::Whole(Err(Refused { refusal, back })) => {
+                write!(f, "refused={} double={}", refusal.number(), Bits(back))
+            }
+            Answer::Combine(Ok(governing)) | Answer::Govern(Ok(governing)) => write!(
+                f,
+                "{}",
+                Rows(governing)
+            ),
+            Answer::Combine(Err(Refused { refusal, back })) => {
+                write!(
+                    f,
+                    "refused={} effect={} double={}",
+                    refusal.number(),
+                    key(back.load),
+                    Bits(back.double)
+                )
+            }
+            Answer::Govern(Err(Refused { refusal, back })) => {
+                write!(f, "refused={} effect={}", refusal.number(), key(back))
+            }
         }
     }
-    write(out, b"\n")
 }
