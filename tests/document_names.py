@@ -32,8 +32,8 @@ COMMANDS = [*OF_A_CRATE, *"all doc fmt help lemma names new seed selftest versio
 OF_ALL = "check tidy test verdict".split()
 # Words of the kit, of Rust, of the shell and of C that documents use; and signs of the reckonings, as N and K.
 OF_OTHERS = set(
-    "antt auto bash cond file ensures fn ghost grep incremental let memcpy memset mod new old position printf python3 pub "
-    "requires rt run tactic trusted u64 unfolding use Vec where write io specs Counts TMPDIR N K O C CR double class record "
+    "antt auto bash cond file ensures fn ghost grep incremental let memcpy memset mod mut new old position printf python3 pub "
+    "requires rt run self tactic trusted u64 unfolding use Vec where write io specs Counts TMPDIR N K O C CR double class record "
     "abbrev unfoldable".split()
 )
 # How a name is declared: in definitions and proofs, in Rattle and Rust, in C, in Python and in scripts; and a sheet's keys.
