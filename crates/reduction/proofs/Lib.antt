@@ -9,3 +9,5 @@ pub mod Twentieths
 pub mod Figures
 pub mod Fits
 pub mod Scales
+mod Down
+mod Found

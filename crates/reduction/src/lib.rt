@@ -13,6 +13,7 @@ ghost use Rattle.reduction.specs.inner.Class.{class_number};
 use class::Class;
 use member::limits;
 use refusal::Refusal;
+use scale::RootArea;
 use share::Share;
 
 mod class;
@@ -53,7 +54,7 @@ impl Carried {
         let formula = self.formula_share();
         match formula {
             Share::Twentieths(_) => None,
-            Share::Root(x) => Some(scale::rounded_down(x)),
+            Share::Root(x) => Some(RootArea { influence: x }.rounded_down()),
         }
     }
 
