@@ -1,31 +1,26 @@
--- The digits that the kit puts are those of the definition.
+-- The digits that the library writes are those of the definition.
 -- Assumes nothing.
-use mathlib.Core.Path.{◌≡◌, sym, ◌∙◌, ap}
+use mathlib.Core.Path.{◌≡◌, refl, sym, ◌∙◌, ap}
+use mathlib.Core.Bool.{Bool, true, false}
 use mathlib.Core.List.{List, [], ◌∷◌, ◌++◌}
-use Prim.Native.Nat.{ℕ, zero, suc, ◌+◌, ◌*◌, ◌/◌, ◌%◌, ◌^◌, ◌≤◌, ◌<◌}
-use native.Mathlib.Nat.{le-div_iff_mul-le, one-le-pow, pow-suc}
-use native.Mathlib.Numerals.{unary_clauses}
+use Prim.Native.Nat.{ℕ, zero, suc, ◌+◌, ◌/◌, ◌%◌, ◌^◌, ◌≤◌, ◌<◌}
 use native.Mathlib.Omega.{arith}
-use borrow.Author.Tests.{lt-ltb}
-use Rattle.io.specs.Digits.{hex_digit_ascii, last_digits, IsDigitCount}
+use lib.Dec.{ltb}
+use borrow.Author.Tests.{ltb-true, ltb-false}
+use Rattle.std.specs.Fmt.{decimal as written}
+use Rattle.std.proofs.lemmas.Fmt.{decimal_digit, decimal_step}
 use Rattle.text.specs.Text.{decimal}
-use Rattle.text.proofs.Decimal.{decimal_small, decimal_more, tenth}
+use Rattle.text.proofs.Decimal.{decimal_small, decimal_more}
 
-last_digit_lem : (n : ℕ) → hex_digit_ascii (n % 10) ≡ 48 + n % 10
-last_digit_lem n = rw (lt-ltb (n % 10) 10 (omega arith))
+-- by the digits of a tenth, with room for so many steps
+same : (k n : ℕ) → n ≤ k → n < 2 ^ 64 → written n ≡ decimal n
+same zero n h m = decimal_digit n (omega arith) ∙ sym (decimal_small n (omega arith))
+same (suc k) n h m = go (ltb n 10) refl (same k (n / 10))
+  where
+    go : (t : Bool) → ltb n 10 ≡ t → (n / 10 ≤ k → n / 10 < 2 ^ 64 → written (n / 10) ≡ decimal (n / 10)) → written n ≡ decimal n
+    go true e f = decimal_digit n (ltb-true n 10 e) ∙ sym (decimal_small n (ltb-true n 10 e))
+    go false e f = let big : 10 ≤ n = ltb-false n 10 e in rw (decimal_more n big) (decimal_step n big m ∙ ap (λ (ds : List ℕ). ds ++ ((48 + n % 10) ∷ [])) (f (omega arith) (omega arith)))
 
--- a number from 10 ^ k on and below 10 ^ (k + 1), or from 0 on where k is 0, has k + 1 digits
-spelled : (k n : ℕ) → n < 10 ^ suc k → (0 < k → 10 ^ k ≤ n) → last_digits 10 (suc k) n ≡ decimal n
-spelled zero n h l =
-    let one : n % 10 ≡ n = omega arith in
-    ap (λ (d : ℕ). d ∷ []) (last_digit_lem n ∙ ap (λ (d : ℕ). 48 + d) one) ∙ sym (decimal_small n h)
-spelled (suc k) n h l =
-    let low : 10 ^ k * 10 ≤ n = rw (pow-suc 10 k) at (l (omega arith)) in
-    let ten : 10 ≤ n = omega (arith, one-le-pow k 10 (omega arith)) in
-    rw (last_digit_lem n, decimal_more n ten)
-    (ap (λ (ds : List ℕ). ds ++ ((48 + n % 10) ∷ [])) (spelled k (n / 10) (tenth (suc k) n h) (λ _. (le-div_iff_mul-le {k = 10} (omega arith)).1 low)))
-
--- the fewest digits that hold a number are its decimal digits
-pub fewest_decimal : (n k : ℕ) → IsDigitCount 10 1 n k → last_digits 10 k n ≡ decimal n
-fewest_decimal n zero f = absurd (omega (arith, f.0))
-fewest_decimal n (suc k) f = spelled k n f.1 (λ p. simp unary_clauses at (f.2 (omega arith)))
+-- a number of 64 bits is written as its decimal digits
+pub written_decimal : (n : ℕ) → n < 2 ^ 64 → written n ≡ decimal n
+written_decimal n m = same n n (omega arith) m

@@ -38,9 +38,8 @@ impl<'a> Output<'a> {
         ensures same_buffer { self.new.buffer.ghost_name ≡ self.old.buffer.ghost_name }
         ensures put { out self.new.buffer.now self.new.at ≡ puts self.old.buffer.now self.old.at (decimal n ∷ []) }
     {
-        let mut digits = [0u8; 20];
-        let count = io::decimal(n, &mut digits);
-        self.text(&digits[..count]);
+        let mut digits = itoa::Buffer::new();
+        self.text(digits.format(n).as_bytes());
     }
 
     // Puts a key and the number after it.

@@ -1,9 +1,11 @@
--- `text::Output::decimal` meets its contract: what the kit puts are the decimal digits. Assumes nothing.
-use mathlib.Core.Path.{◌∙◌}
-use Rattle.text.proofs.Digits.{fewest_decimal}
+-- `text::Output::decimal` meets its contract: what the library writes are the decimal digits. Assumes nothing.
+use mathlib.Core.Path.{◌∙◌, ap}
+use mathlib.Core.List.{List, [], ◌∷◌}
+use Prim.Native.Nat.{ℕ}
+use native.Mathlib.Omega.{arith}
+use Rattle.text.specs.Put.{puts}
+use Rattle.text.proofs.Digits.{written_decimal}
 use Rattle.text.proofs.Output.decimal.Goals as goal
 
 pub returns-clause-put : goal.returns-clause-put
-returns-clause-put c =
-    let n = c.args.n in
-    rw (c.decimal-count.ensures.digits ∙ fewest_decimal n c.decimal-count.result c.decimal-count.ensures.len) at c.text.ensures.put
+returns-clause-put c = c.text.ensures.put ∙ ap (λ (ds : List ℕ). puts c.args.self.now.buffer.now c.args.self.now.at (ds ∷ [])) (c.as_bytes.ensures.value ∙ c.format.ensures.text ∙ written_decimal c.args.n (omega arith))
