@@ -7,9 +7,10 @@ ghost use Rattle.sheet.specs.Sheet.{read_sheet};
 ghost use Rattle.sheet.specs.Keeps.{Keeps};
 ghost use Rattle.sheet_writer.specs.Saving.{saving, saved_of, saved_text};
 
-use column::{Member, Places};
+use column::{ColumnRef, Member, Places};
+use refusal::Refused;
 use sheet::Reading;
-use sheet_writer::{SheetDoubles, Written};
+use sheet_writer::{Placed, SheetDoubles, Written};
 
 // Reads a text as a sheet.
 #[unsafe(no_mangle)]
@@ -34,5 +35,29 @@ pub extern "C" fn bungero_write(
     ensures out_after { out.new ≡ fronted (saved_text (saving (column_from member count held.now) effects (length out.old))) out.old }
     ensures prefix_len { IsPrefixLen result.length out.new }
 {
-    sheet_writer::write(held, member, count, effects, out)
+    let column = ColumnRef {
+        member,
+        count,
+        held,
+    };
+    match sheet_writer::write(column, effects, out) {
+        Ok(length) => Written {
+            number: 0,
+            place: 0,
+            double: 0.0,
+            length,
+        },
+        Err(Refused { refusal, back }) => {
+            let effect = back.unwrap_or(Placed {
+                place: 0,
+                double: 0.0,
+            });
+            Written {
+                number: refusal.number(),
+                place: effect.place,
+                double: effect.double,
+                length: 0,
+            }
+        }
+    }
 }

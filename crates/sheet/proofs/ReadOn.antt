@@ -11,7 +11,8 @@ use lib.Seq.{length-take-le}
 use borrow.Author.Tests.{le-ltb}
 use Rattle.sheet.specs.declared.Reading.{Reading}
 use Rattle.text.specs.Lines.{ended, Lines, line, rest, split, end_from}
-use Rattle.sheet.specs.Sheet.{Draft, Taken, unread, is_complete, line_taken, reading, if_read, read_from, read_sheet}
+use Rattle.sheet.specs.declared.steps.Draft.{Draft}
+use Rattle.sheet.specs.Sheet.{Taken, unread, is_complete, line_taken, reading, if_read, read_from, read_sheet}
 use Rattle.sheet.specs.Keeps.{Keeps}
 use Rattle.text.proofs.Lines.{bytes, bytes_split}
 use Rattle.text.proofs.LineEnd.{end_most, line_short, line_whole}

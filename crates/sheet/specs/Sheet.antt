@@ -11,14 +11,9 @@ use Rattle.refusal.specs.Said.{Said, gives, refused}
 use Rattle.sheet_lines.specs.declared.Form.{Form}
 use Rattle.sheet_lines.specs.declared.Form.TheVariants as F
 use Rattle.sheet_lines.specs.Form.{effect_count, line_said}
-use Rattle.sheet.specs.declared.Sheet.{Sheet}
 use Rattle.sheet.specs.declared.Reading.{Reading}
+use Rattle.sheet.specs.declared.steps.Draft.{Draft}
 use Rattle.text.specs.Lines.{Lines, line, rest, split}
-
--- 01, The sheet: a sheet as far as it was read, and the line that is due
-pub record Draft : Type 0 where
-  pub due : Due
-  pub sheet : Sheet
 
 -- 01, Numbers by the place of checking: what becomes of a line: its number, 0 where it is taken, and the draft then
 pub record Taken : Type 0 where

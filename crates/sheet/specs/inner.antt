@@ -1,3 +1,3 @@
 -- What only private functions ask, and laws say; no promise reaches it.
-pub mod InPlace
+pub mod Stopped
 pub mod SoFar

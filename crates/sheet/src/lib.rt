@@ -1,16 +1,17 @@
 // A text sheet read into a column and six effects, line by line; and the part of a text that is refused.
 #![tactic(auto)]
 
-ghost use Rattle.std.specs.Prelude.{◌≡◌, List, ℕ};
-ghost use Rattle.column.specs.inner.Sound.{no_places};
-ghost use Rattle.sheet.specs.Sheet.{reading, read_sheet, offending_of, offending_at};
+ghost use Rattle.std.specs.Prelude.{◌≡◌};
+ghost use Rattle.refusal.specs.Refusal.{number_of};
+ghost use Rattle.sheet.specs.declared.steps.Draft.{Draft};
+ghost use Rattle.sheet.specs.Sheet.{unread, reading, read_sheet, offending_of, offending_at};
 ghost use Rattle.sheet.specs.Keeps.{Keeps};
-ghost use Rattle.sheet.specs.inner.InPlace.{draft_of, summary_sheet, reading_of};
+ghost use Rattle.sheet.specs.inner.Stopped.{reading_of};
 
-use column::{Column, LINES, Member, Places};
-use refusal::Refusal;
+use column::Column;
+use refusal::{Refusal, Refused};
 use sheet_lines::EFFECTS;
-use steps::Progress;
+use steps::Draft;
 use text::scan::line_end;
 
 mod steps;
@@ -28,7 +29,7 @@ pub struct Sheet {
 
 // What reading gives: the number of the refusal, 0 where the sheet is read; the line K, which is the
 // last line where it is read; where the offending part starts and ends; and the sheet, as far as it
-// was read.
+// was read. The C interface hands it out, and all of it is told in both cases.
 #[repr(C)]
 #[derive(Clone, Copy)]
 pub struct Reading {
@@ -39,100 +40,71 @@ pub struct Reading {
     pub sheet: Sheet,
 }
 
-// The same while a sheet is read: its member, its effects and so many lines, whose numbers are in
-// places beside.
+// Where reading stops: the line K, and where the part that is handed back starts and ends.
 #[derive(Clone, Copy)]
-struct Summary {
-    pub number: u64,
+struct Stop {
     pub line: u64,
     pub start: usize,
     pub end: usize,
-    pub member: Member,
-    pub count: u16,
-    pub effects: [i64; EFFECTS],
 }
 
-// What reading gives where it stops.
-fn stopped(number: u64, line: u64, start: usize, end: usize, progress: Progress) -> Summary
-    ensures { (places : List ℕ) → reading_of result places ≡ reading number line start end (draft_of progress places) }
+// The refusal of a line, with the part that is handed back.
+#[tactic(auto, unfolding(crate::specs::inner::Stopped::reading_of))]
+fn refused(refusal: Refusal, line: u64, start: usize, end: usize) -> Result<Stop, Refused<Stop>>
+    ensures { (draft : Draft) → reading_of result draft ≡ reading (number_of refusal) line start end draft }
 {
-    let member = progress.member;
-    let effects = progress.effects;
-    Summary {
-        number: number,
-        line: line,
-        start: start,
-        end: end,
-        member: member,
-        count: progress.count,
-        effects: effects,
-    }
+    Err(Refused {
+        refusal,
+        back: Stop { line, start, end },
+    })
 }
 
-// What reading gives at a line without the form, one that is missing or text left over.
-fn malformed(line: u64, start: usize, end: usize, progress: Progress) -> Summary
-    ensures { (places : List ℕ) → reading_of result places ≡ reading 10 line start end (draft_of progress places) }
+// Reads a sheet line by line, each its form and then its values, into a draft on which nothing is read yet.
+fn read_in(draft: &mut Draft, text: &[u8]) -> Result<Stop, Refused<Stop>>
+    requires { draft.old ≡ unread }
+    ensures { reading_of result draft.new ≡ read_sheet text.now }
 {
-    let number = refusal::number(Refusal::SheetMalformed);
-    stopped(number, line, start, end, progress)
-}
-
-// Reads a sheet line by line, each its form and then its values, with the lines' numbers put into
-// places that are all 0.
-fn read_in(held: &mut Places, text: &[u8]) -> Summary
-    requires { held.old ≡ no_places }
-    ensures held_after { reading_of result held.new ≡ read_sheet text.now }
-    ensures keeps { result.number ≡ 0 → Keeps (summary_sheet result held.new) }
-{
-    let mut progress = steps::unread();
     if text.len() > LONGEST {
-        return stopped(refusal::number(Refusal::SheetTooLong), 0, 0, 0, progress);
+        return refused(Refusal::SheetTooLong, 0, 0, 0);
     }
     let mut at = 0;
     let mut line: u64 = 0;
     while at < text.len() {
         let end = line_end(text, at);
         if end == text.len() {
-            return malformed(line + 1, at, end, progress);
+            return refused(Refusal::SheetMalformed, line + 1, at, end);
         }
-        let step = steps::take_line(held, progress, &text[at..end]);
-        if step.number != 0 {
-            return stopped(step.number, line + 1, at, end, progress);
+        if let Err(refusal) = draft.take_line(&text[at..end]) {
+            return refused(refusal, line + 1, at, end);
         }
-        progress = step.progress;
         at = end + 1;
         line += 1;
     }
-    let due = progress.due;
-    if steps::is_complete(due) {
-        return stopped(0, line, at, at, progress);
+    if draft.is_complete() {
+        return Ok(Stop {
+            line,
+            start: at,
+            end: at,
+        });
     }
-    malformed(line + 1, at, at, progress)
+    refused(Refusal::SheetMalformed, line + 1, at, at)
 }
 
 // Reads a sheet line by line, each its form and then its values.
 pub fn read(text: &[u8]) -> Reading
     ensures { (result ≡ read_sheet text.now) × (result.number ≡ 0 → Keeps result.sheet) }
 {
-    let mut column = Column {
-        member: Member { code: 0 },
-        count: 0,
-        held: [0; LINES],
+    let mut draft = Draft::unread();
+    let (number, stop) = match read_in(&mut draft, text) {
+        Ok(stop) => (0, stop),
+        Err(refused) => (refused.refusal.number(), refused.back),
     };
-    let summary = read_in(&mut column.held, text);
-    let member = summary.member;
-    let effects = summary.effects;
-    column.member = member;
-    column.count = summary.count;
     Reading {
-        number: summary.number,
-        line: summary.line,
-        start: summary.start,
-        end: summary.end,
-        sheet: Sheet {
-            column: column,
-            effects: effects,
-        },
+        number,
+        line: stop.line,
+        start: stop.start,
+        end: stop.end,
+        sheet: draft.sheet,
     }
 }
 

@@ -34,7 +34,8 @@ use Rattle.sheet_lines.specs.theorems.Says.{key_at, as_written, Says, member, fl
 use Rattle.sheet_lines.proofs.SaysForm.{ShortForm, says_form}
 use Rattle.sheet.specs.declared.Sheet.{Sheet}
 use Rattle.text.specs.Lines.{newline, line, split, ended, text_of}
-use Rattle.sheet.specs.Sheet.{Draft, unread, is_complete, with_column, if_taken, effect_number, valued, line_taken, if_read, read_from, read_sheet}
+use Rattle.sheet.specs.declared.steps.Draft.{Draft}
+use Rattle.sheet.specs.Sheet.{unread, is_complete, with_column, if_taken, effect_number, valued, line_taken, if_read, read_from, read_sheet}
 use Rattle.sheet.specs.Keeps.{Keeps}
 use Rattle.sheet.proofs.Kept.{each_within}
 use Rattle.sheet_text.specs.Written.{effect_lines, lines_in, written}

@@ -24,7 +24,8 @@ use Rattle.sheet_lines.specs.Form.{effect_keys, said_form, line_said}
 use Rattle.sheet_lines.specs.LineText.{effect_text}
 use Rattle.sheet_lines.specs.theorems.Says.{SaysFloor, Says, member, floor, effect, key_at}
 use Rattle.sheet_lines.proofs.SaysForm.{Read, says, malformed, form_read}
-use Rattle.sheet.specs.Sheet.{Draft, if_taken, valued, line_taken}
+use Rattle.sheet.specs.declared.steps.Draft.{Draft}
+use Rattle.sheet.specs.Sheet.{if_taken, valued, line_taken}
 use Rattle.sheet.proofs.Kept.{Kept}
 use Rattle.sheet_text.specs.Written.{effect_lines}
 use Rattle.sheet_text.specs.theorems.Saying.{lines_with, SayFloors, no_line, and_line, SayWith, SayBefore}

@@ -1,116 +1,83 @@
--- The six effects of a sheet, checked as seven with a live effect of 0 among them; and what writing gives by that check.
+-- The six effects of a sheet, each checked as it is read off its double; and what writing gives by that check.
 -- Assumes nothing.
-use mathlib.Core.Path.{◌≡◌, refl, sym, ◌∙◌, ap}
-use mathlib.Core.Bool.{true, false}
-use mathlib.Core.List.{List, [], ◌∷◌, ◌++◌}
-use Prim.Native.Nat.{ℕ}
-use native.Mathlib.Omega.{arith}
-use lib.Dec.{leb}
-use lib.IntN.{ℤ, pos}
+use Rattle.std.proofs.Common.{◌≡◌, sym, ap, true, false, List, ℕ, leb, length, ℤ, Option, Some, None, Ok, Err}
+use Rattle.std.specs.Prelude.{unwrap_or}
 use lib.Ieee.{Float}
-use lib.ListN.{length}
-use Rattle.refusal.specs.Refusal.{number_of}
-use Rattle.refusal.specs.Said.{Told, gives, refused}
-use Rattle.lists.specs.Lists.{none, more}
-use Rattle.newtons.specs.Effect.{value_of, signed, effect_of}
-use Rattle.newtons.proofs.Limits.{effect_whole}
-use Rattle.effects.specs.declared.LoadEffect.{LoadEffect}
-use Rattle.effects.specs.declared.PerLoad.{PerLoad}
-use Rattle.std.specs.Prelude.{Result, Ok, Err}
 use Rattle.refusal.specs.declared.Refused.{Refused}
-use Rattle.effects.specs.declared.Load.TheVariants.{Dead, Live}
-use Rattle.effects.specs.Check.{load_effect, listed, newtons_of, if_given, checked_from, checked_of, said_checked}
-use Rattle.effects.proofs.Checks.{checked_seven}
+use Rattle.refusal.specs.Refusal.{number_of}
+use Rattle.refusal.specs.Said.{Told, gives, refused, told}
+use Rattle.effects.specs.declared.Load.{Load}
+use Rattle.effects.specs.declared.LoadEffect.{LoadEffect}
+use Rattle.effects.specs.Check.{load_effect, if_given}
 use Rattle.column.specs.declared.Column.{Column}
-use Rattle.sheet.specs.Keeps.{EffectsWithin}
 use Rattle.sheet_text.specs.Written.{written}
+use Rattle.sheet_writer.specs.declared.Placed.{Placed}
 use Rattle.sheet_writer.specs.declared.SheetDoubles.{SheetDoubles}
-use Rattle.sheet_writer.specs.Saving.{six_listed, six_checked, placed, no_effect, if_whole, if_room, saving}
-use Rattle.sheet_writer.specs.inner.Parts.{seven_of, six_of, sheet_from}
+use Rattle.sheet_writer.specs.Saving.{six_checked, sheet_place, no_effect, if_whole, if_room, saving, sized, saved_of}
+use Rattle.sheet_writer.specs.inner.Parts.{placed_at, sheet_from}
 
--- what is told of six effects, with a live effect of 0 behind the first, and without it
-with_live : Told LoadEffect (List ℤ) → Told LoadEffect (List ℤ)
-with_live (gives (d ∷ zs)) = gives (d ∷ (pos 0 ∷ zs))
-with_live (gives []) = gives []
-with_live (refused n e) = refused n e
+-- an effect that is taken has that whole number
+pub taken_is : (place : ℕ) (t : Told Float ℤ) {z : ℤ} → told {B = Option Placed} (Ok z) ≡ placed_at place t → t ≡ gives z
+unfolding told placed_at
+taken_is place (gives y) {z} h = let q : z ≡ y = cc in ap gives (sym q)
+taken_is place (refused n x) {z} h = cc
 
-without_live : Told LoadEffect (List ℤ) → Told LoadEffect (List ℤ)
-without_live (gives (d ∷ (l ∷ zs))) = gives (d ∷ zs)
-without_live (gives (d ∷ [])) = gives (d ∷ [])
-without_live (gives []) = gives []
-without_live (refused n e) = refused n e
+-- one that is refused ends the check
+pub ends : {A : Type 0} (l : Load) (x : Float) (t : Told Float ℤ) (next : ℤ → Told LoadEffect (List ℤ)) (go : List ℤ → Told (Option Placed) A) (r : Refused (Option Placed))
+    → told {A = ℤ} (Err r) ≡ placed_at (sheet_place l) t → told {A = A} (Err r) ≡ if_whole (if_given (load_effect l x) t next) go
+unfolding told placed_at if_given if_whole
+ends l x (gives y) next go r h = cc
+ends l x (refused n y) next go r h =
+    let p : number_of r.refusal ≡ n = cc in
+    let q : r.back ≡ Some (record { place = sheet_place l; double = y }) = cc in
+    rw (p, q)
 
-back : (t : Told LoadEffect (List ℤ)) → without_live (with_live t) ≡ t
-unfolding with_live without_live
-back (gives (d ∷ zs)) = refl
-back (gives []) = refl
-back (refused n e) = refl
+-- what is told of all six tells how they are checked
+pub six_taken_are : (t : Told LoadEffect (List ℤ)) {zs : List ℤ} → told {B = Option Placed} (Ok zs) ≡ if_whole t (λ ys. gives ys) → t ≡ gives zs
+unfolding told if_whole
+six_taken_are (gives ys) {zs} h = let q : zs ≡ ys = cc in ap gives (sym q)
+six_taken_are (refused n e) {zs} h = cc
 
--- it stays where it is while the others are checked
-live_among : (d : ℤ) (zs : List ℤ) (es : List LoadEffect) → checked_from (d ∷ (pos 0 ∷ zs)) es ≡ with_live (checked_from (d ∷ zs) es)
-unfolding checked_from if_given with_live
-live_among d zs [] = refl
-live_among d zs (e ∷ es) = go (effect_of e.double) (λ z. live_among d (zs ++ (z ∷ [])) es)
-  where
-    go : (t : Told Float ℤ) → ((z : ℤ) → checked_from (d ∷ (pos 0 ∷ (zs ++ (z ∷ [])))) es ≡ with_live (checked_from (d ∷ (zs ++ (z ∷ []))) es))
-        → if_given e t (λ z. checked_from (d ∷ (pos 0 ∷ (zs ++ (z ∷ [])))) es) ≡ with_live (if_given e t (λ z. checked_from (d ∷ (zs ++ (z ∷ []))) es))
-    go (gives z) f = f z
-    go (refused n x) f = refl
-
--- 0 is taken as 0
-zero_taken : effect_of no_effect.double ≡ gives (pos 0)
-unfolding value_of signed
-zero_taken = effect_whole no_effect.double refl (omega arith)
-
-among : (d l : LoadEffect) (es : List LoadEffect) → effect_of l.double ≡ gives (pos 0) → checked_from [] (d ∷ (l ∷ es)) ≡ with_live (checked_from [] (d ∷ es))
-unfolding checked_from if_given with_live
-among d l es h = go (effect_of d.double)
-  where
-    go : (t : Told Float ℤ)
-        → if_given d t (λ z. if_given l (effect_of l.double) (λ y. checked_from (z ∷ (y ∷ [])) es)) ≡ with_live (if_given d t (λ z. checked_from (z ∷ []) es))
-    go (gives z) = rw h (live_among z [] es)
-    go (refused n x) = refl
-
--- so the six are checked where the seven are
-six_among_seven : (e : SheetDoubles) → six_checked e ≡ without_live (checked_of (seven_of e))
-unfolding six_checked six_listed checked_of listed
-six_among_seven e =
-    sym (ap without_live (among (load_effect Dead e.dead) (load_effect Live no_effect.double) _ zero_taken) ∙ back (six_checked e))
-
-module _ (e : SheetDoubles) {r : Result (PerLoad ℤ) (Refused LoadEffect)} (says : said_checked r ≡ checked_of (seven_of e)) where
-  -- whole numbers within the limit, which are then those of the sheet
-  pub six_whole : {n : PerLoad ℤ} → r ≡ Ok n → six_checked e ≡ gives (six_of n)
-  unfolding said_checked newtons_of without_live
-  six_whole {n} q = six_among_seven e ∙ ap without_live (sym says ∙ ap said_checked q)
-
-  pub six_within : {n : PerLoad ℤ} → r ≡ Ok n → EffectsWithin (six_of n)
-  unfolding said_checked newtons_of
-  six_within {n} q =
-      let s = checked_seven (seven_of e) {xs = newtons_of n} (sym says ∙ ap said_checked q) in
-      record {
-        count = refl;
-        each = more (s.each 0) (more (s.each 2) (more (s.each 3) (more (s.each 4) (more (s.each 5) (more (s.each 6) none)))));
-      }
-
-  -- or the first effect that is refused
-  six_refused : {q : Refused LoadEffect} → r ≡ Err q → six_checked e ≡ refused (number_of q.refusal) q.back
-  unfolding said_checked without_live
-  six_refused {q} h = six_among_seven e ∙ ap without_live (sym says ∙ ap said_checked h)
-
+module _ (c : Column) (e : SheetDoubles) (room : ℕ) where
   -- and what writing gives then
-  pub saving_whole : (c : Column) (room : ℕ) {n : PerLoad ℤ} → r ≡ Ok n → saving c e room ≡ if_room room (written (sheet_from c n))
+  pub saving_whole : {zs : List ℤ} → six_checked e ≡ gives zs → saving c e room ≡ if_room room (written (sheet_from c zs))
   unfolding saving if_whole
-  saving_whole c room h = rw (six_whole h)
+  saving_whole h = rw h
 
-  pub saving_refused : (c : Column) (room : ℕ) {q : Refused LoadEffect} → r ≡ Err q → saving c e room ≡ refused (number_of q.refusal) (placed q.back)
-  unfolding saving if_whole
-  saving_refused c room h = rw (six_refused h)
+  pub saving_refused : (r : Refused (Option Placed)) → told {A = List ℤ} (Err r) ≡ if_whole (six_checked e) (λ zs. gives zs) → saving c e room ≡ refused (number_of r.refusal) r.back
+  unfolding saving if_whole told
+  saving_refused r h = go (six_checked e) h
+    where
+      go : (t : Told LoadEffect (List ℤ)) → refused (number_of r.refusal) r.back ≡ if_whole {A = List ℤ} t (λ zs. gives zs)
+          → if_whole t (λ zs. if_room room (written (sheet_from c zs))) ≡ refused (number_of r.refusal) r.back
+      go (gives zs) h = cc
+      go (refused n x) h =
+          let p : number_of r.refusal ≡ n = cc in
+          let q : r.back ≡ Some (record { place = sheet_place x.load; double = x.double }) = cc in
+          rw (p, q)
 
 -- with room for the text, and without
 pub with_room : (room : ℕ) (text : List ℕ) → leb (length text) room ≡ true → if_room room text ≡ gives text
 unfolding if_room
 with_room room text h = rw h
 
-pub without_room : (room : ℕ) (text : List ℕ) → leb (length text) room ≡ false → if_room room text ≡ refused 12 no_effect
+pub without_room : (room : ℕ) (text : List ℕ) → leb (length text) room ≡ false → if_room room text ≡ refused 12 None
 unfolding if_room
 without_room room text h = rw h
+
+-- the same in numbers alone
+pub written_is : (t : Told (Option Placed) (List ℕ)) {n : ℕ} → told {B = Option Placed} (Ok n) ≡ sized t
+    → record { number = 0; place = 0; double = no_effect.double; length = n } ≡ saved_of t
+unfolding told sized saved_of
+written_is (gives text) {n} h = let q : n ≡ length text = cc in rw q
+written_is (refused k p) {n} h = cc
+
+pub refused_is : (t : Told (Option Placed) (List ℕ)) (r : Refused (Option Placed)) → told {A = ℕ} (Err r) ≡ sized t
+    → let p = unwrap_or r.back no_effect in
+    record { number = number_of r.refusal; place = p.place; double = p.double; length = 0 } ≡ saved_of t
+unfolding told sized saved_of
+refused_is (gives text) r h = cc
+refused_is (refused k p) r h =
+    let n : number_of r.refusal ≡ k = cc in
+    let q : r.back ≡ p = cc in
+    rw (n, q)

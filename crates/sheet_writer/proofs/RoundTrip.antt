@@ -29,10 +29,13 @@ use Rattle.sheet_text.specs.Written.{written}
 use Rattle.sheet_text.specs.theorems.Exactly.{read_as}
 use Rattle.sheet_text.proofs.Back.{exactly}
 use Rattle.sheet_writer.specs.declared.SheetDoubles.{SheetDoubles}
-use Rattle.sheet_writer.specs.Saving.{Placed, six_listed, six_checked, no_effect, if_whole, if_room, saving, saved_text, saved_of}
+use Rattle.std.specs.Prelude.{Option, None}
+use Rattle.sheet_writer.specs.declared.Placed.{Placed}
+use Rattle.sheet_writer.specs.Saving.{six_listed, six_checked, if_whole, if_room, saving, saved_text, saved_of}
 use Rattle.sheet_writer.specs.theorems.RoundTrip.{Returns, ReadBack, sheet_doubles_of, WrittenBack, AnySheet, EffectsTaken, TouchesNoMore, RoomSuffices}
 use Rattle.sheet_writer.proofs.Checks.{with_room, without_room}
 use Rattle.sheet_writer.proofs.Sizes.{written_most}
+use Rattle.sheet_writer.proofs.Texts.{six_list}
 
 -- ---- six effects that are taken, or the first that is refused
 
@@ -70,24 +73,13 @@ all_of : (zs : List ℤ) → ((k : ℕ) → nat_abs (get_or zs k (pos 0)) ≤ li
 all_of [] f = none
 all_of (z ∷ zs) f = more (f 0) (all_of zs (λ k. f (suc k)))
 
-six_kept : (e : SheetDoubles) {zs : List ℤ} → six_checked e ≡ gives zs → EffectsWithin zs
+pub six_kept : (e : SheetDoubles) {zs : List ℤ} → six_checked e ≡ gives zs → EffectsWithin zs
 unfolding six_checked six_listed
 six_kept e {zs} h =
     let s = all_kept [] (six_listed e) {xs = zs} (λ i. omega arith) h in
     record { count = omega (arith, s.count); each = all_of zs s.each }
 
 -- ---- six whole numbers handed over as doubles
-
-six_list : (zs : List ℤ) → length zs ≡ 6
-    → (get_or zs 0 (pos 0) ∷ get_or zs 1 (pos 0) ∷ get_or zs 2 (pos 0) ∷ get_or zs 3 (pos 0) ∷ get_or zs 4 (pos 0) ∷ get_or zs 5 (pos 0) ∷ []) ≡ zs
-six_list (a ∷ (b ∷ (c ∷ (d ∷ (e ∷ (f ∷ [])))))) h = refl
-six_list (a ∷ (b ∷ (c ∷ (d ∷ (e ∷ (f ∷ (g ∷ zs))))))) h = absurd (omega arith)
-six_list (a ∷ (b ∷ (c ∷ (d ∷ (e ∷ []))))) h = absurd (omega arith)
-six_list (a ∷ (b ∷ (c ∷ (d ∷ [])))) h = absurd (omega arith)
-six_list (a ∷ (b ∷ (c ∷ []))) h = absurd (omega arith)
-six_list (a ∷ (b ∷ [])) h = absurd (omega arith)
-six_list (a ∷ []) h = absurd (omega arith)
-six_list [] h = absurd (omega arith)
 
 -- 02, CR 2: "six whole effects within limits"
 pub six_taken : EffectsTaken
@@ -128,7 +120,7 @@ read_back c e buffer r = go (six_checked e) refl
     fit zs q true p h =
         let s : Sheet = record { column = c; effects = zs } in
         rw (with_room (length buffer) (written s) p, fronted_take (written s) buffer) (returns-text s e (keeps_six c e zs r q) q)
-    fit zs q false p h = absurd (omega (arith, ap (λ (t : Told Placed (List ℕ)). (saved_of t).number) (without_room (length buffer) (written (record { column = c; effects = zs })) p), h))
+    fit zs q false p h = absurd (omega (arith, ap (λ (t : Told (Option Placed) (List ℕ)). (saved_of t).number) (without_room (length buffer) (written (record { column = c; effects = zs })) p), h))
 
     go : (t : Told LoadEffect (List ℤ)) → six_checked e ≡ t
         → let told = if_whole t (λ zs. if_room (length buffer) (written (record { column = c; effects = zs }))) in
@@ -147,7 +139,7 @@ written_back text buffer e room =
     let fits : leb (length (written s)) (length buffer) ≡ true = le-leb (length (written s)) (length buffer) (omega (arith, room, ap length q)) in
     let told : saving s.column (sheet_doubles_of s.effects) (length buffer) ≡ gives text =
     sheet_told s (sheet_doubles_of s.effects) (length buffer) (six_taken s.effects (read_keeps text e).effects) ∙ (with_room (length buffer) (written s) fits ∙ ap gives (sym q)) in
-    (ap saved_of told, ap (λ (t : Told Placed (List ℕ)). fronted (saved_text t) buffer) told)
+    (ap saved_of told, ap (λ (t : Told (Option Placed) (List ℕ)). fronted (saved_text t) buffer) told)
 
 -- 02, CR 2: "any column and six whole effects within limits"
 pub any_sheet : AnySheet
@@ -155,16 +147,16 @@ unfolding saved_of saved_text fronted
 any_sheet s e buffer h =
     record {
       whole = λ room. let told = written_told room in (ap saved_of told, ap after told);
-      short = λ lack. let told = short_told lack in (ap (λ (t : Told Placed (List ℕ)). (saved_of t).number) told, ap after told);
+      short = λ lack. let told = short_told lack in (ap (λ (t : Told (Option Placed) (List ℕ)). (saved_of t).number) told, ap after told);
     }
   where
-    after : Told Placed (List ℕ) → List ℕ
+    after : Told (Option Placed) (List ℕ) → List ℕ
     after t = fronted (saved_text t) buffer
 
     written_told : length (written s) ≤ length buffer → saving s.column e (length buffer) ≡ gives (written s)
     written_told room = sheet_told s e (length buffer) h ∙ with_room (length buffer) (written s) (le-leb (length (written s)) (length buffer) room)
 
-    short_told : length buffer < length (written s) → saving s.column e (length buffer) ≡ refused 12 no_effect
+    short_told : length buffer < length (written s) → saving s.column e (length buffer) ≡ refused 12 None
     short_told lack = sheet_told s e (length buffer) h ∙ without_room (length buffer) (written s) (lt-leb (length (written s)) (length buffer) lack)
 
 -- ---- what is touched, and the room
@@ -174,11 +166,11 @@ pub touches_no_more : TouchesNoMore
 unfolding saved_of saved_text fronted
 touches_no_more c e buffer = record { past = past (saving c e (length buffer)); refusal = refusal (saving c e (length buffer)) }
   where
-    past : (t : Told Placed (List ℕ)) → drop (saved_of t).length (fronted (saved_text t) buffer) ≡ drop (saved_of t).length buffer
+    past : (t : Told (Option Placed) (List ℕ)) → drop (saved_of t).length (fronted (saved_text t) buffer) ≡ drop (saved_of t).length buffer
     past (gives text) = fronted_drop text buffer
     past (refused n x) = refl
 
-    refusal : (t : Told Placed (List ℕ)) → ((saved_of t).number ≡ 0 → ⊥) → fronted (saved_text t) buffer ≡ buffer
+    refusal : (t : Told (Option Placed) (List ℕ)) → ((saved_of t).number ≡ 0 → ⊥) → fronted (saved_text t) buffer ≡ buffer
     refusal (gives text) h = absurd (h refl)
     refusal (refused n x) h = refl
 
@@ -192,5 +184,5 @@ room_suffices = record { longest = written_most; never_short = λ c e buffer r s
     go c e buffer r size (gives zs) q h =
         let s : Sheet = record { column = c; effects = zs } in
         let fits = le-leb (length (written s)) (length buffer) (omega (arith, size, written_most s (keeps_six c e zs r q))) in
-        omega (arith, h, ap (λ (t : Told Placed (List ℕ)). (saved_of t).number) (with_room (length buffer) (written s) fits))
+        omega (arith, h, ap (λ (t : Told (Option Placed) (List ℕ)). (saved_of t).number) (with_room (length buffer) (written s) fits))
     go c e buffer r size (refused n x) q h = omega (arith, refused_early e q, h)

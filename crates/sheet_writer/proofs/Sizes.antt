@@ -1,20 +1,22 @@
 -- How long the lines of a sheet are, and the longest sheet.
 -- Assumes nothing.
-use mathlib.Core.Path.{◌≡◌}
+use mathlib.Core.Path.{◌≡◌, refl}
 use mathlib.Core.Bool.{true, false}
 use mathlib.Core.List.{List, [], ◌∷◌, ◌++◌}
-use Prim.Native.Nat.{ℕ, ◌+◌, ◌*◌, ◌≤◌}
+use Rattle.std.specs.Prelude.{sum_by}
+use Rattle.std.proofs.lemmas.List.Sums.{sum_by-cons}
+use Prim.Native.Nat.{ℕ, zero, suc, ◌+◌, ◌*◌, ◌/◌, ◌^◌, ◌≤◌, ◌<◌}
+use native.Mathlib.Nat.{pow-suc}
 use native.Mathlib.Omega.{arith}
 use lib.IntN.{ℤ, pos, nat_abs}
 use lib.ListN.{length, length-append}
 use lib.Signed.{lt_z}
 use Rattle.text.specs.Text.{joined, decimal, signed_decimal}
 use Rattle.text.proofs.Puts.{joined_append, joined_length}
-use Rattle.text.proofs.Decimal.{length_most}
+use Rattle.text.proofs.Decimal.{length_most, length_more, length_some}
 use Rattle.text.proofs.Sign.{signed_below, signed_from_zero, signed_length}
 use Rattle.lists.specs.Lists.{All, none, more}
 use Rattle.newtons.specs.Effect.{magnitude_of, limit}
-use Rattle.effects.specs.declared.PerLoad.{PerLoad}
 use Rattle.column.specs.declared.Line.{Line}
 use Rattle.column.specs.Column.{lines_of}
 use Rattle.column.specs.inner.Sound.{InLimits}
@@ -26,7 +28,7 @@ use Rattle.sheet_lines.specs.LineText.{line_numbers}
 use Rattle.sheet.specs.declared.Sheet.{Sheet}
 use Rattle.sheet.specs.Keeps.{Keeps}
 use Rattle.sheet_text.specs.Written.{written}
-use Rattle.sheet_writer.specs.inner.Parts.{field_parts, member_parts, line_parts, floors_parts, effect_parts, effects_parts, six_of, sheet_parts}
+use Rattle.sheet_writer.specs.inner.Parts.{field_parts, member_parts, line_parts, floors_parts, effect_parts, effects_parts, sheet_parts}
 use Rattle.sheet_writer.proofs.Texts.{sheet_text}
 
 -- by the numbers in them: the member's line, a floor line, and the line of an effect
@@ -52,20 +54,44 @@ pub signed_from_zero_length : (z : ℤ) → lt_z z (pos 0) ≡ false → length 
 unfolding joined
 signed_from_zero_length z h = rw (signed_from_zero z h) (simp length-append (omega arith))
 
--- one effect more, and all six of seven
+pos_pow : (k : ℕ) → 1 ≤ 10 ^ k
+pos_pow zero = omega arith
+pos_pow (suc k) = omega (arith, pow-suc 10 k, pos_pow k)
+
+-- the digits of a number from 10 ^ k on, below 10 ^ (k + 1)
+digits_least : (k n : ℕ) → 10 ^ k ≤ n → suc k ≤ length (decimal n)
+digits_least zero n h = length_some n
+digits_least (suc k) n h =
+    let some : 1 ≤ 10 ^ k = pos_pow k in
+    let ten : 10 ≤ n = omega (arith, pow-suc 10 k, h) in
+    let tenth : 10 ^ k ≤ n / 10 = omega (arith, pow-suc 10 k, h) in
+    omega (arith, length_more n ten, digits_least k (n / 10) tenth)
+
+pub digits_are : (k n : ℕ) → 10 ^ k ≤ n → n < 10 * 10 ^ k → length (decimal n) ≡ k + 1
+digits_are k n low high = omega (arith, digits_least k n low, length_most k n (rw (pow-suc 10 k) (omega (arith, high))))
+
+-- one effect more, and all of them
 effects_more : (key : List ℕ) (keys : List (List ℕ)) (z : ℤ) (zs : List ℤ)
     → length (joined (effects_parts (key ∷ keys) (z ∷ zs))) ≡ length key + length (signed_decimal z) + 1 + length (joined (effects_parts keys zs))
 unfolding effects_parts
 effects_more key keys z zs = omega (arith, joined_length (effect_parts key z) (effects_parts keys zs), effect_length key z)
 
-pub effects_length : (n : PerLoad ℤ)
-    → length (joined (effects_parts effect_keys (six_of n)))
-    ≡ 37
-    + (length (signed_decimal n.dead) + length (signed_decimal n.roof) + length (signed_decimal n.snow))
-    + (length (signed_decimal n.rain) + length (signed_decimal n.wind) + length (signed_decimal n.quake))
-unfolding effect_keys effects_parts joined
-effects_length n =
-    simp effects_more (omega arith)
+abbrev pub numbers_length : List ℤ → ℕ
+numbers_length zs = sum_by (λ z. length (signed_decimal z)) zs
+
+pub effects_length : (keys : List (List ℕ)) (zs : List ℤ) → length zs ≡ length keys
+    → length (joined (effects_parts keys zs)) ≡ length (joined keys) + length keys + numbers_length zs
+unfolding effects_parts joined
+effects_length [] [] h = refl
+effects_length [] (z ∷ zs) h = absurd (omega arith)
+effects_length (key ∷ keys) [] h = absurd (omega arith)
+effects_length (key ∷ keys) (z ∷ zs) h =
+    let rest = effects_length keys zs (omega arith) in
+    let more = effects_more key keys z zs in
+    let size = length-append key (joined keys) in
+    let all : length (joined (key ∷ keys)) ≡ length key + length (joined keys) = size in
+    let sum : numbers_length (z ∷ zs) ≡ length (signed_decimal z) + numbers_length zs = sum_by-cons (λ z. length (signed_decimal z)) z zs in
+    omega (arith, more, all, rest, sum)
 
 -- ---- the longest sheet
 

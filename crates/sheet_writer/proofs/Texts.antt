@@ -4,22 +4,21 @@ use mathlib.Core.Path.{◌≡◌, refl, sym, ◌∙◌, ap}
 use mathlib.Core.List.{List, [], ◌∷◌, ◌++◌, append-nil, append_assoc, map}
 use Prim.Native.Nat.{ℕ, suc, ◌<◌}
 use native.Mathlib.Omega.{arith}
-use lib.IntN.{ℤ}
-use lib.ListN.{length}
+use lib.IntN.{ℤ, pos}
+use lib.ListN.{length, get_or}
 use Rattle.text.specs.Text.{bytes_of, joined, decimal, signed_parts, signed_decimal}
 use Rattle.text.specs.Lines.{newline, ended, text_of}
 use Rattle.text.proofs.Puts.{joined_append}
 use Rattle.text.proofs.Lines.{text_append}
-use Rattle.effects.specs.declared.PerLoad.{PerLoad}
 use Rattle.column.specs.declared.Line.{Line}
 use Rattle.column.specs.Column.{lines_of}
 use Rattle.column.specs.inner.Sound.{line_at, lines_before}
 use Rattle.column.proofs.Lines.{between_more}
-use Rattle.sheet_lines.specs.Form.{effect_keys}
+use Rattle.sheet_lines.specs.Form.{effect_count, effect_keys}
 use Rattle.sheet_lines.specs.LineText.{fields_text, member_text, floor_text, effect_text}
 use Rattle.sheet.specs.declared.Sheet.{Sheet}
 use Rattle.sheet_text.specs.Written.{effect_lines, lines_in, written}
-use Rattle.sheet_writer.specs.inner.Parts.{field_parts, member_parts, line_parts, floors_parts, effect_parts, effects_parts, six_of, sheet_parts}
+use Rattle.sheet_writer.specs.inner.Parts.{field_parts, member_parts, line_parts, floors_parts, effect_parts, effects_parts, sheet_parts}
 
 -- a line of numbers behind their keys, ended
 fields_text_lem : (keys : List (List ℕ)) (ns : List ℕ) → joined (field_parts keys ns) ≡ ended (fields_text keys ns)
@@ -59,17 +58,29 @@ effects_text [] zs = refl
 effects_text (key ∷ keys) [] = refl
 effects_text (key ∷ keys) (z ∷ zs) = joined_append (effect_parts key z) (effects_parts keys zs) ∙ rw (effect_text_lem key z, effects_text keys zs)
 
--- the six effects of seven, one after another
-pub effects_parts_lem : (n : PerLoad ℤ)
-    → effects_parts effect_keys (six_of n)
-    ≡ effect_parts (bytes_of "dead=") n.dead
-    ++ (effect_parts (bytes_of "roof=") n.roof
-    ++ (effect_parts (bytes_of "snow=") n.snow
-    ++ (effect_parts (bytes_of "rain=") n.rain
-    ++ (effect_parts (bytes_of "wind=") n.wind
-    ++ effect_parts (bytes_of "quake=") n.quake))))
+-- six numbers
+pub six_list : (zs : List ℤ) → length zs ≡ effect_count
+    → (get_or zs 0 (pos 0) ∷ get_or zs 1 (pos 0) ∷ get_or zs 2 (pos 0) ∷ get_or zs 3 (pos 0) ∷ get_or zs 4 (pos 0) ∷ get_or zs 5 (pos 0) ∷ []) ≡ zs
+six_list (a ∷ (b ∷ (c ∷ (d ∷ (e ∷ (f ∷ [])))))) h = refl
+six_list (a ∷ (b ∷ (c ∷ (d ∷ (e ∷ (f ∷ (g ∷ zs))))))) h = absurd (omega arith)
+six_list (a ∷ (b ∷ (c ∷ (d ∷ (e ∷ []))))) h = absurd (omega arith)
+six_list (a ∷ (b ∷ (c ∷ (d ∷ [])))) h = absurd (omega arith)
+six_list (a ∷ (b ∷ (c ∷ []))) h = absurd (omega arith)
+six_list (a ∷ (b ∷ [])) h = absurd (omega arith)
+six_list (a ∷ []) h = absurd (omega arith)
+six_list [] h = absurd (omega arith)
+
+-- the six effects, one after another
+pub effects_parts_lem : (zs : List ℤ) → length zs ≡ effect_count
+    → effects_parts effect_keys zs
+    ≡ effect_parts (bytes_of "dead=") (get_or zs 0 (pos 0))
+    ++ (effect_parts (bytes_of "roof=") (get_or zs 1 (pos 0))
+    ++ (effect_parts (bytes_of "snow=") (get_or zs 2 (pos 0))
+    ++ (effect_parts (bytes_of "rain=") (get_or zs 3 (pos 0))
+    ++ (effect_parts (bytes_of "wind=") (get_or zs 4 (pos 0))
+    ++ effect_parts (bytes_of "quake=") (get_or zs 5 (pos 0))))))
 unfolding effects_parts effect_keys
-effects_parts_lem n = rw (append-nil (effect_parts (bytes_of "quake=") n.quake))
+effects_parts_lem zs h = ap (effects_parts effect_keys) (sym (six_list zs h)) ∙ rw (append-nil (effect_parts (bytes_of "quake=") (get_or zs 5 (pos 0))))
 
 -- the whole sheet
 pub sheet_text : (s : Sheet) → joined (sheet_parts s) ≡ written s

@@ -1,84 +1,100 @@
 // The lines of a sheet, put into a buffer.
-ghost use Rattle.std.specs.Prelude.{◌≡◌};
+ghost use Rattle.std.specs.Prelude.{◌≡◌, ◌≤◌, length, map, take};
 ghost use Rattle.text.specs.Put.{out, puts};
-ghost use Rattle.column.specs.inner.Sound.{Held, lines_before};
-ghost use Rattle.column.specs.Column.{column_from};
+ghost use Rattle.column.specs.Line.{most_lines, unpacked};
+ghost use Rattle.column.specs.Seen.{column_seen};
 ghost use Rattle.sheet_lines.specs.Form.{effect_keys};
-ghost use Rattle.sheet_writer.specs.inner.Parts.{member_parts, line_parts, floors_parts, effect_parts, effects_parts, six_of, sheet_from, sheet_parts};
+ghost use Rattle.sheet.specs.Keeps.{EffectsWithin};
+ghost use Rattle.sheet_writer.specs.inner.Parts.{member_parts, line_parts, floors_parts, effect_parts, effects_parts, sheet_from, sheet_parts};
 
-use column::{Line, Member, Places};
-use effects::Newtons;
-use text::{put_field, put_newline, put_signed, put_text};
+use column::{ColumnRef, Line, Member};
+use sheet_lines::EFFECTS;
+use text::Output;
 
-// Puts the member's line at the front.
-fn put_member(to: &mut [u8], member: Member) -> usize
-    ensures { out to.new result ≡ puts to.old 0 (member_parts member.code) }
+// Puts the member's line.
+fn put_member(output: &mut Output, member: Member)
+    ensures same_buffer { output.new.buffer.ghost_name ≡ output.old.buffer.ghost_name }
+    ensures put { out output.new.buffer.now output.new.at ≡ puts output.old.buffer.now output.old.at (member_parts member.code) }
 {
-    let next = put_field(to, 0, b"member=", member.code as u64);
-    put_newline(to, next)
+    output.field(b"member=", member.code as u64);
+    output.newline();
 }
 
 // Puts a floor line.
-fn put_line(to: &mut [u8], at: usize, line: Line) -> usize
-    ensures { out to.new result ≡ puts to.old at (line_parts line) }
+fn put_line(output: &mut Output, line: Line)
+    ensures same_buffer { output.new.buffer.ghost_name ≡ output.old.buffer.ghost_name }
+    ensures put { out output.new.buffer.now output.new.at ≡ puts output.old.buffer.now output.old.at (line_parts line) }
 {
-    let area = line.area;
-    let a = put_field(to, at, b"floor=", line.floor);
-    let b = put_field(to, a, b" class=", line.class);
-    let c = put_field(to, b, b" load=", line.load);
-    let d = put_field(to, c, b" area=", area.0);
-    put_newline(to, d)
+    output.field(b"floor=", line.floor);
+    output.field(b" class=", line.class);
+    output.field(b" load=", line.load);
+    output.field(b" area=", line.area.0);
+    output.newline();
 }
 
-// Puts the first so many lines of a column, in order.
-fn put_lines(to: &mut [u8], at: usize, held: &Places, count: usize) -> usize
-    requires { Held held.now count }
-    ensures { out to.new result ≡ puts to.old at (floors_parts (lines_before held.now count)) }
+// The numbers that hold the lines of a column.
+pub fn held_numbers(column: ColumnRef<'_>) -> &[u64]
+    ensures value { result.now ≡ take column.entry.count column.entry.held.now }
+    ensures few { length result.now ≤ most_lines }
 {
-    let mut next = at;
-    let mut i = 0usize;
-    while i < count {
-        next = put_line(to, next, column::line_of(held[i]));
-        i += 1;
+    let held = column.held;
+    &held[..column.count as usize]
+}
+
+// Puts the floor lines that these numbers hold, in order.
+fn put_lines(output: &mut Output, numbers: &[u64])
+    ensures same_buffer { output.new.buffer.ghost_name ≡ output.old.buffer.ghost_name }
+    ensures put { out output.new.buffer.now output.new.at ≡ puts output.old.buffer.now output.old.at (floors_parts (map unpacked numbers.now)) }
+{
+    for number in numbers {
+        put_line(output, column::line_of(*number));
     }
-    next
 }
 
 // Puts an effect behind its key, and ends the line. Compiled into its callers, where the keys are known, so that the
 // library copies by memcpy alone.
 #[inline(always)]
-fn put_effect(to: &mut [u8], at: usize, key: &[u8], newtons: i64) -> usize
-    ensures { out to.new result ≡ puts to.old at (effect_parts key.now newtons) }
+fn put_effect(output: &mut Output, key: &[u8], newtons: i64)
+    ensures same_buffer { output.new.buffer.ghost_name ≡ output.old.buffer.ghost_name }
+    ensures put { out output.new.buffer.now output.new.at ≡ puts output.old.buffer.now output.old.at (effect_parts key.now newtons) }
 {
-    let a = put_text(to, at, key);
-    let b = put_signed(to, a, newtons);
-    put_text(to, b, b"\n")
+    output.text(key);
+    output.signed(newtons);
+    output.text(b"\n");
 }
 
 // Puts the six effects of a sheet.
-fn put_effects(to: &mut [u8], at: usize, newtons: Newtons) -> usize
-    ensures { out to.new result ≡ puts to.old at (effects_parts effect_keys (six_of newtons)) }
+fn put_effects(output: &mut Output, effects: [i64; EFFECTS])
+    requires { EffectsWithin effects }
+    ensures same_buffer { output.new.buffer.ghost_name ≡ output.old.buffer.ghost_name }
+    ensures put { out output.new.buffer.now output.new.at ≡ puts output.old.buffer.now output.old.at (effects_parts effect_keys effects) }
 {
-    let a = put_effect(to, at, b"dead=", newtons.dead);
-    let b = put_effect(to, a, b"roof=", newtons.roof);
-    let c = put_effect(to, b, b"snow=", newtons.snow);
-    let d = put_effect(to, c, b"rain=", newtons.rain);
-    let e = put_effect(to, d, b"wind=", newtons.wind);
-    put_effect(to, e, b"quake=", newtons.quake)
+    let [dead, roof, snow, rain, wind, quake] = effects;
+    put_effect(output, b"dead=", dead);
+    put_effect(output, b"roof=", roof);
+    put_effect(output, b"snow=", snow);
+    put_effect(output, b"rain=", rain);
+    put_effect(output, b"wind=", wind);
+    put_effect(output, b"quake=", quake);
 }
 
-// Puts a sheet, whose column is lent in its parts, at the front of a buffer.
-pub fn put_sheet(
-    to: &mut [u8],
-    held: &Places,
-    member: Member,
-    count: u16,
-    newtons: Newtons,
-) -> usize
-    requires { Held held.now count }
-    ensures { out to.new result ≡ puts to.old 0 (sheet_parts (sheet_from (column_from member count held.now) newtons)) }
+// Puts the sheet of a column and six effects.
+fn put_all(output: &mut Output, column: ColumnRef<'_>, effects: [i64; EFFECTS])
+    requires { EffectsWithin effects }
+    ensures same_buffer { output.new.buffer.ghost_name ≡ output.old.buffer.ghost_name }
+    ensures put { out output.new.buffer.now output.new.at ≡ puts output.old.buffer.now output.old.at (sheet_parts (sheet_from (column_seen column.entry) effects)) }
 {
-    let a = put_member(to, member);
-    let b = put_lines(to, a, held, count as usize);
-    put_effects(to, b, newtons)
+    put_member(output, column.member);
+    put_lines(output, held_numbers(column));
+    put_effects(output, effects);
+}
+
+// Puts the sheet of a column and six effects at the front of a buffer.
+pub fn put_sheet(to: &mut [u8], column: ColumnRef<'_>, effects: [i64; EFFECTS]) -> usize
+    requires { EffectsWithin effects }
+    ensures { out to.new result ≡ puts to.old 0 (sheet_parts (sheet_from (column_seen column.entry) effects)) }
+{
+    let mut output = Output { buffer: to, at: 0 };
+    put_all(&mut output, column, effects);
+    output.at
 }

@@ -4,27 +4,15 @@
 #![tactic(auto)]
 
 ghost use Rattle.io.specs.Counts.{IsPrefixLen};
-ghost use Rattle.column.specs.Column.{column_from, Reached};
 
-use column::{Member, Places};
+use column::ColumnRef;
 use sheet_lines::EFFECTS;
 use sheet_writer::SheetDoubles;
 use std::io;
-use std::io::{Read, Write};
+use std::io::{BufWriter, Read, Write};
 
 // More than the stored sheets take.
 const ROOM: usize = 1048576;
-
-// Writes a text.
-fn write(rt: &impl Print, text: &[u8]) -> io::Result<()> {
-    io::writer(rt).write_all(text)
-}
-
-// Writes a number after its name.
-fn write_number(rt: &impl Print, name: &[u8], n: usize) -> io::Result<()> {
-    write(rt, name)?;
-    print!(rt; "{n}")
-}
 
 // An effect of a sheet as a double; none that is read is beyond the limit.
 fn double_of(effect: i64) -> f64 {
@@ -36,125 +24,97 @@ fn double_of(effect: i64) -> f64 {
 
 // The six effects of a sheet as they are handed to the writer.
 fn doubles_of(effects: [i64; EFFECTS]) -> SheetDoubles {
+    let [dead, roof, snow, rain, wind, quake] = effects.map(double_of);
     SheetDoubles {
-        dead: double_of(effects[0]),
-        roof: double_of(effects[1]),
-        snow: double_of(effects[2]),
-        rain: double_of(effects[3]),
-        wind: double_of(effects[4]),
-        quake: double_of(effects[5]),
+        dead,
+        roof,
+        snow,
+        rain,
+        wind,
+        quake,
     }
-}
-
-// Whether two texts are the same.
-fn is_same(text: &[u8], other: &[u8]) -> bool {
-    if text.len() != other.len() {
-        return false;
-    }
-    let mut i = 0;
-    while i < text.len() {
-        if text[i] != other[i] {
-            return false;
-        }
-        i += 1;
-    }
-    true
 }
 
 // Writes a sheet that was read, and gives how many bytes that is.
 fn put_back(
-    held: &Places,
-    member: Member,
-    count: u16,
+    column: ColumnRef<'_>,
     effects: [i64; EFFECTS],
-    out: &mut [u8; sheet_writer::ROOM],
+    back: &mut [u8; sheet_writer::ROOM],
 ) -> usize
-    requires { Reached (column_from member count held.now) }
-    ensures { IsPrefixLen result out.new }
+    ensures { IsPrefixLen result back.new }
 {
-    let written = sheet_writer::write(held, member, count, doubles_of(effects), out);
-    written.length
+    match sheet_writer::write(column, doubles_of(effects), back) {
+        Ok(length) => length,
+        Err(_) => 0,
+    }
 }
 
 // Prints how many bytes a sheet that was read has when it is written back, and whether they are its text.
-fn write_back(
-    rt: &impl Print,
+fn write_back<W: Write>(
+    out: &mut W,
     text: &[u8],
-    held: &Places,
-    member: Member,
-    count: u16,
+    column: ColumnRef<'_>,
     effects: [i64; EFFECTS],
-) -> io::Result<()>
-    requires { Reached (column_from member count held.now) }
-{
-    let mut out = [0u8; sheet_writer::ROOM];
-    let length = put_back(held, member, count, effects, &mut out);
-    write_number(rt, b"written=", length)?;
-    if is_same(text, &out[..length]) {
-        return write(rt, b" same\n");
-    }
-    write(rt, b" other\n")
+) -> io::Result<()> {
+    let mut back = [0u8; sheet_writer::ROOM];
+    let length = put_back(column, effects, &mut back);
+    let word = if text == &back[..length] {
+        "same"
+    } else {
+        "other"
+    };
+    writeln!(out, "written={length} {word}")
 }
 
-// Prints of a sheet that is read what it is when it is written back.
-fn answer_back(rt: &impl Print, text: &[u8]) -> io::Result<()> {
+// Prints the report of a sheet, then where the part that is refused starts and ends, and the part; and of a
+// sheet that is read what it is when it is written back.
+fn answer<W: Write>(out: &mut W, text: &[u8]) -> io::Result<()> {
+    let mut printed = [0u8; report::ROOM];
+    let size = report::put_printed(text, &mut printed);
+    out.write_all(&printed[..size])?;
     let reading = sheet::read(text);
+    let start = reading.start;
+    let end = reading.end;
+    write!(out, "start={start} end={end} part=")?;
+    out.write_all(sheet::offending(text))?;
+    writeln!(out)?;
     if reading.number == 0 {
-        let member = reading.sheet.column.member;
-        let count = reading.sheet.column.count;
-        let effects = reading.sheet.effects;
-        return write_back(rt, text, &reading.sheet.column.held, member, count, effects);
+        return write_back(
+            out,
+            text,
+            reading.sheet.column.lend(),
+            reading.sheet.effects,
+        );
     }
     Ok(())
 }
 
-// Prints the report of a sheet, then where the part that is refused starts and ends, and the part.
-fn answer(rt: &impl Print, text: &[u8]) -> io::Result<()> {
-    let mut out = [0u8; report::ROOM];
-    let size = report::put_printed(text, &mut out);
-    write(rt, &out[..size])?;
-    let reading = sheet::read(text);
-    write_number(rt, b"start=", reading.start)?;
-    write_number(rt, b" end=", reading.end)?;
-    write(rt, b" part=")?;
-    write(rt, sheet::offending(text))?;
-    write(rt, b"\n")?;
-    answer_back(rt, text)
-}
-
 // The number that a line `sheet` gives; leading digits past a million are dropped, since no text is so long.
-fn size_from(line: &[u8]) -> usize {
-    let mut size: usize = 0;
-    let mut i = 6;
-    while i < line.len() {
-        let byte = line[i];
-        if byte < b'0' {
-            return 0;
+fn size_from(line: &[u8]) -> Option<usize> {
+    let mut size = 0;
+    for byte in line.iter().skip(6) {
+        if !byte.is_ascii_digit() {
+            return None;
         }
-        if byte > b'9' {
-            return 0;
-        }
-        size = size % 1_000_000 * 10 + (byte - b'0') as usize;
-        i += 1;
+        size = size % 1_000_000 * 10 + (*byte - b'0') as usize;
     }
-    size
+    Some(size)
 }
 
 // Answers for every sheet; a sheet that is cut short is not read.
-fn answer_all(rt: &impl Print, text: &[u8]) -> io::Result<()> {
-    let mut at = 0;
-    while at < text.len() {
-        let Some(length) = text[at..].iter().position(|byte| *byte == b'\n') else {
-            return write(rt, b"unread\n");
+fn answer_all<W: Write>(out: &mut W, text: &[u8]) -> io::Result<()> {
+    let mut rest = text;
+    while !rest.is_empty() {
+        let Some(end) = rest.iter().position(|byte| *byte == b'\n') else {
+            return writeln!(out, "unread");
         };
-        let end = at + length;
-        let start = end + 1;
-        let size = size_from(&text[at..end]);
-        if size > text.len() - start {
-            return write(rt, b"unread\n");
+        let size = size_from(&rest[..end]).unwrap_or(0);
+        let sheets = &rest[end + 1..];
+        if size > sheets.len() {
+            return writeln!(out, "unread");
         }
-        at = start + size;
-        answer(rt, &text[start..at])?;
+        answer(out, &sheets[..size])?;
+        rest = &sheets[size..];
     }
     Ok(())
 }
@@ -166,5 +126,7 @@ fn main(rt: HostRuntime) -> io::Result<()> {
     if text.len() == ROOM {
         return eprintln!(rt; "trial_sheet: too many sheets");
     }
-    answer_all(&rt, &text)
+    let mut out = BufWriter::new(rt.alloc(), io::writer(&rt))?;
+    answer_all(&mut out, &text)?;
+    out.flush()
 }

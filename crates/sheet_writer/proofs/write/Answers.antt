@@ -1,27 +1,36 @@
--- `sheet_writer::write` meets its contract: an effect is refused, or the sheet is written. Assumes nothing.
-use mathlib.Core.Path.{◌≡◌, refl, ◌∙◌, ap}
-use native.Mathlib.Omega.{arith}
+-- `sheet_writer::write` meets its contract: the effects first, and then the room. Assumes nothing.
+use Rattle.std.proofs.Common.{◌≡◌, length}
+use Rattle.std.proofs.lemmas.Result.{err_from_is_err_and}
+use Rattle.refusal.specs.Said.{gives, told}
 use Rattle.text.specs.Put.{fronted}
-use Rattle.effects.specs.Check.{checked_of, said_checked}
-use Rattle.sheet_writer.specs.Saving.{saved_text, saved_of}
-use Rattle.sheet_writer.specs.inner.Parts.{seven_of}
-use Rattle.sheet_writer.proofs.Checks.{six_within, saving_whole, saving_refused}
+use Rattle.column.specs.Seen.{column_seen}
+use Rattle.sheet_writer.specs.Saving.{six_checked, saved_text, sized}
+use Rattle.sheet_writer.proofs.Checks.{six_taken_are, saving_whole, saving_refused}
+use Rattle.sheet_writer.proofs.RoundTrip.{six_kept}
 use Rattle.sheet_writer.proofs.write.Goals as goal
-use Rattle.sheet_writer.proofs.write.Goals.{After-check}
+use Rattle.sheet_writer.proofs.write.Goals.{In_ok-whole}
 
--- the check is that of the six
-says : (c : After-check) → said_checked c.check.result ≡ checked_of (seven_of c.args.effects)
-says c = c.check.ensures ∙ ap checked_of c.seven_of.ensures
+pub returns-in_err-whole-clause-value : goal.returns-in_err-whole-clause-value
+unfolding sized told
+returns-in_err-whole-clause-value c =
+    let p = err_from_is_err_and c.from_residual.result c.from_residual.ensures.1 in
+    rw (p.1, p.2, saving_refused (column_seen c.args.column) c.args.effects (length c.args.out.now) c.in_err-whole.field-0.0 c.in_err-whole.ensures)
+
+pub returns-in_err-whole-clause-out_after : goal.returns-in_err-whole-clause-out_after
+unfolding saved_text fronted
+returns-in_err-whole-clause-out_after c =
+    rw (saving_refused (column_seen c.args.column) c.args.effects (length c.args.out.now) c.in_err-whole.field-0.0 c.in_err-whole.ensures)
+
+taken : (c : In_ok-whole) → six_checked c.args.effects ≡ gives c.in_ok-whole.whole
+taken c = six_taken_are _ c.in_ok-whole.ensures
 
 pub write_whole-requires : goal.write_whole-requires
-write_whole-requires c =
-    record { column = c.requires; effects = six_within c.args.effects (says (goal.at.write_whole-requires c).After-check) c.in-Ok.is }
+write_whole-requires c = six_kept c.args.effects (taken (goal.at.write_whole-requires c).In_ok-whole)
 
-pub returns-in-Ok : goal.returns-in-Ok
-returns-in-Ok c =
-    rw (saving_whole c.args.effects (says (goal.at.returns-in-Ok c).After-check) _ _ c.in-Ok.is) c.write_whole.ensures
+pub returns-clause-value : goal.returns-clause-value
+returns-clause-value c =
+    rw (saving_whole (column_seen c.args.column) c.args.effects (length c.args.out.now) (taken (goal.at.returns-clause-value c).In_ok-whole)) c.write_whole.ensures.value
 
-pub returns-in-Err : goal.returns-in-Err
-unfolding saved_text saved_of fronted
-returns-in-Err c =
-    rw (saving_refused c.args.effects (says (goal.at.returns-in-Err c).After-check) _ _ c.in-Err.is, c.refused_effect.ensures) (record { value = refl; out_after = refl; prefix_len = (omega arith, refl) })
+pub returns-clause-out_after : goal.returns-clause-out_after
+returns-clause-out_after c =
+    rw (saving_whole (column_seen c.args.column) c.args.effects (length c.args.out.now) (taken (goal.at.returns-clause-out_after c).In_ok-whole)) c.write_whole.ensures.out_after

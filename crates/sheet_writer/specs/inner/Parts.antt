@@ -1,28 +1,25 @@
--- The text of a sheet as the parts that are put one after another, and the six effects among seven.
+-- The text of a sheet as the parts that are put one after another, and each of its effects.
 -- Assumes nothing.
-use Rattle.std.specs.Prelude.{List, [], ◌∷◌, ◌++◌, ℕ, ℤ, Float}
+use Rattle.std.specs.Prelude.{List, [], ◌∷◌, ◌++◌, ℕ, ℤ, Float, Option, Some}
 use Rattle.text.specs.Text.{decimal, signed_parts}
 use Rattle.text.specs.Lines.{newline}
-use Rattle.effects.specs.declared.PerLoad.{PerLoad}
+use Rattle.refusal.specs.Said.{Told, gives, refused}
 use Rattle.column.specs.declared.Line.{Line}
 use Rattle.column.specs.declared.Column.{Column}
 use Rattle.column.specs.Column.{lines_of}
 use Rattle.sheet_lines.specs.Form.{member_keys, floor_keys, effect_keys}
 use Rattle.sheet_lines.specs.LineText.{line_numbers}
 use Rattle.sheet.specs.declared.Sheet.{Sheet}
-use Rattle.sheet_writer.specs.declared.SheetDoubles.{SheetDoubles}
-use Rattle.sheet_writer.specs.Saving.{no_effect}
+use Rattle.sheet_writer.specs.declared.Placed.{Placed}
 
--- the six effects with a live effect of 0 among them; six of seven whole numbers; and a sheet with them
-abbrev pub seven_of : SheetDoubles → PerLoad Float
-seven_of e =
-    record { dead = e.dead; live = no_effect.double; roof = e.roof; snow = e.snow; rain = e.rain; wind = e.wind; quake = e.quake }
+-- the sheet of a column and six effects
+abbrev pub sheet_from : Column → List ℤ → Sheet
+sheet_from c zs = record { column = c; effects = zs }
 
-abbrev pub six_of : PerLoad ℤ → List ℤ
-six_of n = n.dead ∷ n.roof ∷ n.snow ∷ n.rain ∷ n.wind ∷ n.quake ∷ []
-
-abbrev pub sheet_from : Column → PerLoad ℤ → Sheet
-sheet_from c n = record { column = c; effects = six_of n }
+-- the effect at a place in whole newtons, or its refusal
+unfoldable pub placed_at : ℕ → Told Float ℤ → Told (Option Placed) ℤ
+placed_at place (gives z) = gives z
+placed_at place (refused n x) = refused n (Some (record { place = place; double = x }))
 
 -- numbers behind their keys, and the newline
 unfoldable pub field_parts : List (List ℕ) → List ℕ → List (List ℕ)

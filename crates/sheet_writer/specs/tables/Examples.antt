@@ -1,7 +1,7 @@
 -- Paper 02, CR 2: what writing gives in examples: effects at and beside their limits, buffers that are just long enough and
 -- one byte too short.
 -- Assumes nothing.
-use Rattle.std.specs.Prelude.{◌≡◌, true, false, cond, List, [], ◌∷◌, map, ℕ, eqb, pos, negsuc, Float}
+use Rattle.std.specs.Prelude.{◌≡◌, true, false, cond, List, [], ◌∷◌, map, ℕ, eqb, pos, negsuc, Float, Option, Some, None}
 use Prim.Native.String.{String}
 use Rattle.std.specs.Float.{nan, inf, fin}
 use Rattle.refusal.specs.Said.{Told, gives, refused}
@@ -10,7 +10,8 @@ use Rattle.text.specs.Lines.{newline}
 use Rattle.column.specs.Line.{entries_of}
 use Rattle.column.specs.Column.{column_of, member_of}
 use Rattle.sheet_writer.specs.declared.SheetDoubles.{SheetDoubles}
-use Rattle.sheet_writer.specs.Saving.{Placed, no_effect, saving}
+use Rattle.sheet_writer.specs.declared.Placed.{Placed}
+use Rattle.sheet_writer.specs.Saving.{saving}
 
 -- so many newtons as a double, upwards with a minus sign, and so many halves
 abbrev pub whole : ℕ → Float
@@ -27,18 +28,18 @@ abbrev pub six : Float → Float → Float → Float → Float → Float → She
 six d r s n w q = record { dead = d; roof = r; snow = s; rain = n; wind = w; quake = q }
 
 -- what is told: a text, in which | stands for the newline; an effect that is refused, at a place; that there is no room
-unfoldable pub puts : String → Told Placed (List ℕ)
+unfoldable pub puts : String → Told (Option Placed) (List ℕ)
 puts text = gives (map (λ b. cond (eqb b 124) newline b) (bytes_of text))
 
-abbrev pub refuses : ℕ → ℕ → Float → Told Placed (List ℕ)
-refuses number place x = refused number (record { place = place; double = x })
+abbrev pub refuses : ℕ → ℕ → Float → Told (Option Placed) (List ℕ)
+refuses number place x = refused number (Some (record { place = place; double = x }))
 
-abbrev pub no_room : Told Placed (List ℕ)
-no_room = refused 12 no_effect
+abbrev pub no_room : Told (Option Placed) (List ℕ)
+no_room = refused 12 None
 
 -- a member's code and its lines, four numbers each; the effects; the bytes of the buffer; and what is told
 pub data Example : Type 0 where
-  example : ℕ → List ℕ → SheetDoubles → ℕ → Told Placed (List ℕ) → Example
+  example : ℕ → List ℕ → SheetDoubles → ℕ → Told (Option Placed) (List ℕ) → Example
 
 -- 01, The sheet: the lines of the sample
 unfoldable pub offices : List ℕ

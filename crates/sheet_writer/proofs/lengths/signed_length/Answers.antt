@@ -25,7 +25,7 @@ returns-then-n-lt0 c =
     let below = signed_below_length c.args.n (ap (λ (z : ℤ). lt_z z (pos 0)) (sym (same (goal.at.returns-then-n-lt0 c).Start)) ∙ c.if-n-lt0.true) in
     (omega (arith, below, digits_are (goal.at.returns-then-n-lt0 c).After-decimal_length-digits), omega (arith, c.decimal_length-digits.ensures.1))
 
-pub returns : goal.returns
-returns c =
-    let above = signed_from_zero_length c.args.n (ap (λ (z : ℤ). lt_z z (pos 0)) (sym (same (goal.at.returns c).Start)) ∙ c.if-n-lt0.false) in
-    (omega (arith, above, digits_are (goal.at.returns c).After-decimal_length-digits), omega (arith, c.decimal_length-digits.ensures.1))
+pub returns-else-n-lt0 : goal.returns-else-n-lt0
+returns-else-n-lt0 c =
+    let above = signed_from_zero_length c.args.n (ap (λ (z : ℤ). lt_z z (pos 0)) (sym (same (goal.at.returns-else-n-lt0 c).Start)) ∙ c.if-n-lt0.false) in
+    (omega (arith, above, digits_are (goal.at.returns-else-n-lt0 c).After-decimal_length-digits), omega (arith, c.decimal_length-digits.ensures.1))

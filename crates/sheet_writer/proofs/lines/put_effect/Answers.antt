@@ -5,8 +5,8 @@ use Rattle.text.proofs.Puts.{puts_then}
 use Rattle.sheet_writer.specs.inner.Parts.{effect_parts}
 use Rattle.sheet_writer.proofs.lines.put_effect.Goals as goal
 
-pub returns : goal.returns
+pub returns-clause-put : goal.returns-clause-put
 unfolding effect_parts
-returns c =
-    let number = rw (to_z-of_z w64 c.args.newtons c.ranges.newtons) at c.put_signed-b.ensures in
-    puts_then _ _ _ _ c.put_text-a.ensures (puts_then _ _ _ _ number c.put_text.ensures)
+returns-clause-put c =
+    let number = rw (to_z-of_z w64 c.args.newtons c.ranges.newtons) at c.signed.ensures.put in
+    puts_then _ _ _ _ c.text.ensures.put (puts_then _ _ _ _ number c.text-2.ensures.put)

@@ -5,8 +5,8 @@ use Rattle.sheet_lines.specs.LineText.{line_numbers}
 use Rattle.sheet_writer.specs.inner.Parts.{field_parts, line_parts}
 use Rattle.sheet_writer.proofs.lines.put_line.Goals as goal
 
-pub returns : goal.returns
+pub returns-clause-put : goal.returns-clause-put
 unfolding line_parts field_parts floor_keys line_numbers
-returns c =
-    let four = puts_then _ _ _ _ (puts_then _ _ _ _ (puts_then _ _ _ _ c.put_field-a.ensures c.put_field-b.ensures) c.put_field-c.ensures) c.put_field-d.ensures in
-    puts_then _ _ _ _ four c.put_newline.ensures
+returns-clause-put c =
+    let four = puts_then _ _ _ _ (puts_then _ _ _ _ (puts_then _ _ _ _ c.field.ensures.put c.field-2.ensures.put) c.field-3.ensures.put) c.field-4.ensures.put in
+    puts_then _ _ _ _ four c.newline.ensures.put

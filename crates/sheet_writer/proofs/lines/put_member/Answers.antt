@@ -4,6 +4,6 @@ use Rattle.sheet_lines.specs.Form.{member_keys}
 use Rattle.sheet_writer.specs.inner.Parts.{field_parts, member_parts}
 use Rattle.sheet_writer.proofs.lines.put_member.Goals as goal
 
-pub returns : goal.returns
+pub returns-clause-put : goal.returns-clause-put
 unfolding member_parts field_parts member_keys
-returns c = puts_then _ _ _ _ c.put_field-next.ensures c.put_newline.ensures
+returns-clause-put c = puts_then _ _ _ _ c.field.ensures.put c.newline.ensures.put

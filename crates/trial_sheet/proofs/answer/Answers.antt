@@ -1,0 +1,5 @@
+-- `trial_sheet::answer` meets its contract: the column of a sheet that is read is reached. Assumes nothing.
+use Rattle.trial_sheet.proofs.answer.Goals as goal
+
+pub lend-requires : goal.lend-requires
+lend-requires g c = (c.read-reading.ensures.1 c.if-reading-eq0.true).column
