@@ -1,22 +1,24 @@
--- `sheet_writer::whole_at` meets its contract: what is refused has its place. Assumes nothing.
-use Rattle.std.proofs.Common.{ap}
-use mir.Syntax.{w64}
-use mir.Facts.{to_z-of_z}
-use borrow.Author.Rules.{rules}
+-- `sheet_writer::whole_at` meets its contract: a refusal is that of the double, with the place beside it. Assumes nothing.
+use Rattle.std.proofs.Common.{◌≡◌, refl, ◌∙◌, ap, rules, ℕ, Option, Some}
+use Rattle.std.specs.Prelude.{Result, Ok, Err, Float, ℤ}
+use Rattle.refusal.specs.declared.Refused.{Refused}
 use Rattle.refusal.specs.Said.{told}
-use Rattle.refusal.specs.Refusal.{number_of}
-use Rattle.newtons.specs.Effect.{said_effect}
+use Rattle.refusal.proofs.Mapped.{mapped, mapped_is}
+use Rattle.sheet_writer.specs.declared.Placed.{Placed}
 use Rattle.sheet_writer.specs.inner.Parts.{placed_at}
 use Rattle.sheet_writer.proofs.whole_at.Goals as goal
 
-pub returns-in-Whole : goal.returns-in-Whole
-unfolding told placed_at said_effect
-returns-in-Whole c = rw (to_z-of_z {w = w64} {z = c.in-Whole.newtons} (search rules)) (ap (placed_at c.args.place) c.in-Whole.ensures)
+beside : ℕ → Refused Float → Refused (Option Placed)
+beside p r = record { refusal = r.refusal; back = Some (record { place = p; double = r.back }) }
 
-pub returns-in-NotWhole : goal.returns-in-NotWhole
-unfolding told placed_at said_effect number_of
-returns-in-NotWhole c = ap (placed_at c.args.place) c.in-NotWhole.ensures
+told_beside : (p : ℕ) (r : Result ℤ (Refused Float)) → told (mapped (beside p) r) ≡ placed_at p (told r)
+unfolding told mapped beside placed_at
+told_beside p (Ok z) = refl
+told_beside p (Err e) = refl
 
-pub returns-in-Beyond : goal.returns-in-Beyond
-unfolding told placed_at said_effect number_of
-returns-in-Beyond c = ap (placed_at c.args.place) c.in-Beyond.ensures
+pub returns : goal.returns
+unfolding beside
+returns c =
+    let p = c.args.place in
+    ap told (mapped_is (beside p) _ c.whole_of.result c.map_err.result (λ e y q. search rules) c.map_err.ensures.cases)
+    ∙ (told_beside p c.whole_of.result ∙ ap (placed_at p) c.whole_of.ensures)
