@@ -2,7 +2,9 @@
 -- Assumes nothing.
 use mathlib.Core.Path.{◌≡◌, refl, sym, ◌∙◌, ap}
 use mathlib.Core.Bool.{Bool, true, false, cond, ◌||◌, or-true, or_self_left, false≢true}
-use mathlib.Core.List.{List, [], ◌∷◌, ◌++◌}
+use mathlib.Core.List.{List, [], ◌∷◌, ◌++◌, map}
+use lib.ListN.{length, get_or}
+use Rattle.column.specs.Line.{unpacked}
 use Prim.Native.Nat.{ℕ, zero, suc, ◌+◌, ◌≤◌, ◌<◌}
 use native.Mathlib.Nat.{lt_of_not-le}
 use native.Mathlib.Decide.{dec_le}
@@ -13,6 +15,7 @@ use Rattle.lists.specs.Lists.{All, none, more, keep, some, total}
 use Rattle.lists.proofs.Tests.{cases}
 use Rattle.lists.proofs.Lists.{keep_passed, keep_failed, total_keep, all_so}
 use Rattle.column.specs.declared.Line.{Line}
+use Rattle.column.specs.Accepted.{last_floor}
 use Rattle.figure.specs.Carried.{is_formula_line, formula_lines, carried, has_floor, floors_of, area_of}
 use Rattle.figure.specs.inner.Totals.{formula_area, At, DownTo, Below}
 
@@ -71,6 +74,13 @@ unfolding has_floor some
 has_in [] l ks = rw (eq-eqb l.floor l.floor refl)
 has_in (k ∷ ls) l ks = rw (has_in ls l ks) (or-true (eqb k.floor l.floor))
 
+-- and of a line at a place
+pub has_at : (f : ℕ) (ns : List ℕ) (k d : ℕ) → k < length ns → (unpacked (get_or ns k d)).floor ≡ f → has_floor f (map unpacked ns) ≡ true
+unfolding has_floor some
+has_at f [] k d h e = absurd (omega arith)
+has_at f (n ∷ ns) zero d h e = rw (eq-eqb (unpacked n).floor f e)
+has_at f (n ∷ ns) (suc k) d h e = rw (has_at f ns k d (omega arith) e) (or-true (eqb (unpacked n).floor f))
+
 -- lines of one floor have one, and are one more where no line before them has it
 one_floor_lem : (f : ℕ) (l : Line) {ks : List Line} → l.floor ≡ f → All (At f) ks → floors_of (l ∷ ks) ≡ 1
 unfolding floors_of has_floor some
@@ -86,15 +96,15 @@ floors_run f (more {x} {xs} q h) l {ks} e a =
     rw (has_front x.floor xs others) (omega (arith, floors_run f h l e a))
 
 -- a line more with the floor of the last one adds no floor
-has_twice : (f : ℕ) (ls : List Line) (k l : Line) → l.floor ≡ k.floor → has_floor f (ls ++ (k ∷ (l ∷ []))) ≡ has_floor f (ls ++ (k ∷ []))
-unfolding has_floor some
-has_twice f [] k l e = rw e (or_self_left (eqb k.floor f) false)
-has_twice f (j ∷ ls) k l e = ap (λ (b : Bool). eqb j.floor f || b) (has_twice f ls k l e)
+has_again : (f : ℕ) (k : Line) (ls : List Line) (l : Line) → l.floor ≡ last_floor (k ∷ ls) → has_floor f ((k ∷ ls) ++ (l ∷ [])) ≡ has_floor f (k ∷ ls)
+unfolding has_floor some last_floor
+has_again f k [] l e = rw e (or_self_left (eqb k.floor f) false)
+has_again f k (j ∷ ls) l e = ap (λ (b : Bool). eqb k.floor f || b) (has_again f j ls l e)
 
-pub floors_twice : (ls : List Line) (k l : Line) → l.floor ≡ k.floor → floors_of (ls ++ (k ∷ (l ∷ []))) ≡ floors_of (ls ++ (k ∷ []))
-unfolding floors_of has_floor some
-floors_twice [] k l e = one_floor_lem k.floor k refl (more {x = l} e none)
-floors_twice (j ∷ ls) k l e = rw (has_twice j.floor ls k l e, floors_twice ls k l e)
+pub floors_again : (k : Line) (ls : List Line) (l : Line) → l.floor ≡ last_floor (k ∷ ls) → floors_of ((k ∷ ls) ++ (l ∷ [])) ≡ floors_of (k ∷ ls)
+unfolding floors_of has_floor some last_floor
+floors_again k [] l e = one_floor_lem k.floor k refl (more {x = l} e none)
+floors_again k (j ∷ ls) l e = rw (has_again k.floor j ls l e, floors_again j ls l e)
 
 -- one floor further down is at most one floor more: a line is carried above it, is at it, or is below it
 one_or_none : (b : Bool) → (◌≡◌ {A = ℕ} (cond b 0 1 + cond b 1 0) 1) × (cond b 1 0 ≤ 1)

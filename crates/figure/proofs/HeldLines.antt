@@ -1,85 +1,84 @@
--- The lines at a column's places: within their limits, in order, and sums over them.
+-- The lines that numbers hold: within their limits, in order, and sums over them.
 -- Assumes nothing.
-use mathlib.Core.Path.{◌≡◌, sym, ◌∙◌, ap, subst, subst⁻¹}
-use mathlib.Core.List.{List, [], ◌∷◌, ◌++◌}
-use Prim.Native.Nat.{ℕ, suc, ◌+◌, ◌-◌, ◌≤◌, ◌<◌}
-use native.Mathlib.Nat.{add-zero, mul-add}
-use native.Mathlib.Numerals.{add-one}
-use native.Mathlib.Omega.{arith}
-use lib.ListN.{length}
-use Rattle.lists.specs.Lists.{All, total}
-use Rattle.lists.proofs.Lists.{all_first, all_front, all_back, all_more, total_append}
+use Rattle.std.proofs.Common.{◌≡◌, refl, sym, ◌∙◌, ap, arith, ℕ, zero, suc, ◌+◌, ◌≤◌, ◌<◌, Bool, cond, leb, List, [], ◌∷◌, ◌++◌, map, length, take, drop, get_or, sum_by, length-take, length-drop}
+use native.Mathlib.Nat.{le_trans}
+use borrow.Author.Tests.{leb-true, le-leb}
+use Rattle.std.specs.List.{All as Each}
+use Rattle.std.specs.List.Sorted.{IsPartitionedBy}
+use Rattle.std.proofs.lemmas.List.{take-append-drop, map-append, take_more}
+use Rattle.std.proofs.lemmas.List.Elements.{All-take, All-drop}
+use Rattle.std.proofs.lemmas.List.Sums.{sum_by-cons, sum_by-le}
+use Rattle.lists.specs.Lists.{All, none, more, total}
+use Rattle.lists.proofs.Tests.{cases}
+use Rattle.lists.proofs.Lists.{all_first, all_rest}
 use Rattle.column.specs.declared.Line.{Line}
-use Rattle.column.specs.inner.Sound.{InLimits, Held, line_at, lines_before, lines_between}
-use Rattle.column.proofs.Lines.{between_none, between_next, between_split, between_more}
-use Rattle.figure.specs.inner.Totals.{SumOf, DownTo, NotAbove, Ordered}
-use Rattle.figure.proofs.Order.{ordered_front, ordered_before, ordered_after}
+use Rattle.column.specs.Line.{unpacked}
+use Rattle.column.specs.inner.Sound.{InLimits, line_at}
+use Rattle.figure.specs.declared.rates.Shares.{Shares}
+use Rattle.figure.specs.Carried.{formula_lines, area_of, is_formula_line}
+use Rattle.figure.specs.inner.Totals.{formula_area, Lined, areas, figures, NotAbove, Ordered}
+use Rattle.figure.specs.inner.Rates.{figure_by}
+use Rattle.figure.proofs.Carried.{area_total}
+use Rattle.figure.proofs.Most.{line_most}
+use Rattle.figure.proofs.Order.{ordered_first, ordered_rest}
 
-module _ {places : List ℕ} {count : ℕ} (ok : Held places count) where
-  pub room : count ≤ length places
-  room = omega (arith, ok.few, ok.size)
+-- what holds of each line, by its place and line by line
+pub each_of : {P : Line → Type 0} (ns : List ℕ) → All P (map unpacked ns) → Each (λ n. P (unpacked n)) ns
+each_of [] h k d q = absurd (omega arith)
+each_of (n ∷ ns) h zero d q = all_first h
+each_of (n ∷ ns) h (suc k) d q = each_of ns (all_rest h) k d (omega arith)
 
-  -- the first lines are a column's places too
-  pub held_before : (end : ℕ) → end ≤ count → Held places end
-  held_before end h =
-      record {
-        few = omega (arith, ok.few);
-        size = ok.size;
-        lines = all_front (lines_before places end) _ (subst (All InLimits) (between_split places 0 end count (omega arith) h room) ok.lines);
-      }
+pub all_of : {P : Line → Type 0} (ns : List ℕ) → Each (λ n. P (unpacked n)) ns → All P (map unpacked ns)
+all_of [] h = none
+all_of {P = P} (n ∷ ns) h = more (h 0 n (omega arith)) (all_of {P = P} ns (λ k d q. h (suc k) d (omega arith)))
 
-  -- the line at a place stands between those before it and those after it
-  pub line_between : (i : ℕ) → i < count → lines_before places count ≡ lines_before places i ++ (line_at places i ∷ lines_between places (suc i) count)
-  line_between i h =
-      between_split places 0 i count (omega arith) (omega arith) room
-      ∙ ap (λ (ls : List Line). lines_before places i ++ ls) (between_next places i count h room)
+-- the lines before a place, and those from it on
+pub split_at : (k : ℕ) (ns : List ℕ) → map unpacked ns ≡ map unpacked (take k ns) ++ map unpacked (drop k ns)
+split_at k ns = ap (map unpacked) (sym (take-append-drop k ns)) ∙ map-append unpacked (take k ns) (drop k ns)
 
-  pub held_at : (i : ℕ) → i < count → InLimits (line_at places i)
-  held_at i h = all_first (all_back (lines_before places i) (subst (All InLimits) (line_between i h) ok.lines))
+-- one line more
+pub next_line : (ns : List ℕ) (i : ℕ) → i < length ns → map unpacked (take (i + 1) ns) ≡ map unpacked (take i ns) ++ (line_at ns i ∷ [])
+next_line ns i h = ap (map unpacked) (take_more ns i 0 h) ∙ map-append unpacked (take i ns) (get_or ns i 0 ∷ [])
 
-  -- where they are in order, those before it are not below it, and those after it not above
-  module _ (o : Ordered (lines_before places count)) where
-    pub order_before : (end : ℕ) → end ≤ count → Ordered (lines_before places end)
-    order_before end h = ordered_front (lines_before places end) (lines_between places end count) (subst Ordered (between_split places 0 end count (omega arith) h room) o)
+-- both are lines within their limits
+pub lined_take : (k : ℕ) (ns : List ℕ) → Lined ns → Lined (take k ns)
+lined_take k ns h = (omega (arith, h.0, length-take k ns), All-take (λ n. InLimits (unpacked n)) k ns h.1)
 
-    pub above_at : (i : ℕ) → i < count → All (DownTo (line_at places i).floor) (lines_before places i)
-    above_at i h = ordered_before (line_at places i) (lines_between places (suc i) count) (lines_before places i) (subst Ordered (line_between i h) o)
+pub lined_drop : (k : ℕ) (ns : List ℕ) → Lined ns → Lined (drop k ns)
+lined_drop k ns h = (omega (arith, h.0, length-drop k ns), All-drop (λ n. InLimits (unpacked n)) k ns h.1)
 
-    pub after_at : (i : ℕ) → i < count → All (NotAbove (line_at places i).floor) (lines_between places (suc i) count)
-    after_at i h = ordered_after (line_at places i) (lines_between places (suc i) count) (lines_before places i) (subst Ordered (line_between i h) o)
+-- lines in order go down, so a test of the floor parts them
+pub in_order : (ns : List ℕ) → Ordered (map unpacked ns) → (i j : ℕ) (d : ℕ) → i ≤ j → j < length ns → (unpacked (get_or ns i d)).floor ≤ (unpacked (get_or ns j d)).floor
+in_order [] o i j d h q = absurd (omega arith)
+in_order (n ∷ ns) o zero zero d h q = omega arith
+in_order (n ∷ ns) o zero (suc j) d h q = each_of {P = NotAbove (unpacked n).floor} ns (ordered_first o) j d (omega arith)
+in_order (n ∷ ns) o (suc i) zero d h q = absurd (omega arith)
+in_order (n ∷ ns) o (suc i) (suc j) d h q = in_order ns (ordered_rest o) i j d (omega arith) (omega arith)
 
-    -- so of the lines to it
-    pub above_to : (i : ℕ) → i < count → All (DownTo (line_at places i).floor) (lines_before places (suc i))
-    above_to i h =
-        subst⁻¹ (All (DownTo (line_at places i).floor)) (between_more places 0 i (omega arith) (omega (arith, room)))
-        (all_more {P = DownTo (line_at places i).floor} (above_at i h) (omega arith))
+pub parted : (f : ℕ) (ns : List ℕ) → Ordered (map unpacked ns) → IsPartitionedBy (λ n. leb (unpacked n).floor f) ns
+parted f ns o i j d h q e = le-leb _ f (le_trans (in_order ns o i j d h q) (leb-true _ f e))
 
 -- ---- sums
 
-module _ {g : Line → ℕ} {each : ℕ} {places : List ℕ} where
-  -- nothing is summed at the first place
-  pub sum_none : (i : ℕ) → SumOf g each places i i 0
-  unfolding total
-  sum_none i = record { is = ap (total g) (sym (between_none places i)); most = omega arith }
+-- a sum over lines, and over what they say
+sum_total : (f : Line → ℕ) (ns : List ℕ) → sum_by (λ n. f (unpacked n)) ns ≡ total f (map unpacked ns)
+unfolding total
+sum_total f [] = refl
+sum_total f (n ∷ ns) = sum_by-cons (λ m. f (unpacked m)) n ns ∙ ap (λ (s : ℕ). f (unpacked n) + s) (sum_total f ns)
 
-  -- two sums one after another
-  pub sum_join : {first i end sum more : ℕ} → first ≤ i → i ≤ end → end ≤ length places
-      → SumOf g each places first i sum → SumOf g each places i end more → SumOf g each places first end (sum + more)
-  sum_join {first} {i} {end} {sum} {more} h k r s t =
-      let both = ap (total g) (between_split places first i end h k r) ∙ total_append g (lines_between places first i) (lines_between places i end) in
-      let rooms : end - first ≡ (i - first) + (end - i) = omega arith in
-      record {
-        is = rw (s.is, t.is) (sym both);
-        most = rw (rooms, mul-add each (i - first) (end - i)) (omega (arith, s.most, t.most));
-      }
+pub areas_total : (ns : List ℕ) → areas ns ≡ area_of (formula_lines (map unpacked ns))
+areas_total ns = sum_total formula_area ns ∙ sym (area_total (map unpacked ns))
 
-  -- one line more
-  pub sum_next : {first i sum more : ℕ} → first ≤ i → i < length places
-      → SumOf g each places first i sum → more ≡ g (line_at places i) → more ≤ each → SumOf g each places first (i + 1) (sum + more)
-  unfolding total
-  sum_next {first} {i} {sum} {more} h k s e most =
-      let one : lines_between places i (suc i) ≡ line_at places i ∷ [] =
-      between_next places i (suc i) (omega arith) k ∙ ap (λ (ls : List Line). line_at places i ∷ ls) (between_none places (suc i)) in
-      let size : suc i - i ≡ 1 = omega arith in
-      rw (add-one i)
-      (sum_join h (omega arith) k s (record { is = rw one (e ∙ sym (add-zero (g (line_at places i)))); most = rw size (omega arith) }))
+pub figures_total : (s : Shares) (ns : List ℕ) → figures s ns ≡ total (figure_by s) (map unpacked ns)
+figures_total s ns = sum_total (figure_by s) ns
+
+-- how large they can be
+area_most : (l : Line) → InLimits l → formula_area l ≤ 200000
+unfolding formula_area
+area_most l h = cases (λ (b : Bool). cond b l.area.0 0 ≤ 200000) (is_formula_line l) (λ e. h.area.1) (λ e. omega arith)
+
+pub areas_most : (ns : List ℕ) → Lined ns → areas ns ≤ 51200000
+areas_most ns h = omega (arith, h.0, sum_by-le (λ n. formula_area (unpacked n)) 200000 ns (λ k d q. area_most _ (h.1 k d q)))
+
+pub figures_most : (s : Shares) (ns : List ℕ) → Lined ns → figures s ns ≤ 2560000000000
+figures_most s ns h = omega (arith, h.0, sum_by-le (λ n. figure_by s (unpacked n)) 10000000000 ns (λ k d q. line_most s.floors s.influence _ (h.1 k d q)))

@@ -1,19 +1,18 @@
 -- Floors marked as they are found: what is known of the marks, and one line more.
 -- Assumes nothing.
-use mathlib.Core.Path.{◌≡◌, refl, sym, ◌∙◌}
-use mathlib.Core.Bool.{Bool, true, false, cond, ◌||◌}
-use mathlib.Core.List.{List, [], ◌∷◌}
-use Prim.Native.Nat.{ℕ, ◌+◌, ◌≤◌, ◌<◌}
+use Rattle.std.proofs.Common.{◌≡◌, refl, sym, ◌∙◌, arith, ℕ, ◌+◌, ◌≤◌, ◌<◌, Bool, true, false, cond, eqb, List, [], ◌∷◌, ◌++◌, length, get_or, set, replicate, length-set}
+use mathlib.Core.Bool.{◌||◌}
+use mathlib.Core.List.Permᴰ
 use native.Mathlib.Nat.{add_comm}
-use native.Mathlib.Omega.{arith}
-use lib.Dec.{eqb}
-use lib.ListN.{length, get_or, set, replicate, length-set, length-replicate, get_or-replicate}
+use lib.ListN.{get_or-replicate, length-replicate}
 use lib.Seq.{get_or-set_same, get_or-set_other}
 use borrow.Author.Tests.{eqb-true, eqb-false}
 use Rattle.lists.specs.Lists.{some}
+use Rattle.lists.specs.theorems.Orders.{Permuted}
 use Rattle.lists.proofs.Tests.{cases}
 use Rattle.column.specs.declared.Line.{Line}
 use Rattle.figure.specs.Carried.{has_floor, floors_of}
+use Rattle.figure.proofs.Permuted.{has_permuted, floors_permuted}
 
 -- what was found of some lines: how many floors they have, with a mark at each
 pub record Found (ls : List Line) (seen : List Bool) (n : ℕ) : Type 0 where
@@ -25,15 +24,22 @@ pub found_none : Found [] (replicate 65 false) 0
 unfolding floors_of has_floor some
 found_none = record { distinct = refl; size = length-replicate 65 false; marks = λ k h. get_or-replicate 65 k false false h }
 
+-- one line more after the others: a mark says whether its floor is new
+last_first : (l : Line) (ls : List Line) → Permuted (l ∷ ls) (ls ++ (l ∷ []))
+last_first l [] = Permᴰ.cons refl Permᴰ.nil
+last_first l (k ∷ ls) = Permᴰ.trans (Permᴰ.swap refl refl) (Permᴰ.cons refl (last_first l ls))
+
 pub found_more : {ls : List Line} {seen : List Bool} {n : ℕ} (l : Line) → l.floor ≤ 64 → Found ls seen n
-    → Found (l ∷ ls) (set seen l.floor true) (n + cond (get_or seen l.floor false) 0 1)
+    → Found (ls ++ (l ∷ [])) (set seen l.floor true) (n + cond (get_or seen l.floor false) 0 1)
 unfolding floors_of has_floor some
 found_more {ls} {seen} {n} l h c =
+    let same = last_first l ls in
     record {
-      distinct = rw (c.marks l.floor (omega arith), c.distinct) (add_comm (floors_of ls) _);
+      distinct = rw (c.marks l.floor (omega arith), c.distinct) (add_comm (floors_of ls) _ ∙ floors_permuted same);
       size = length-set seen l.floor true ∙ c.size;
       marks = λ k q.
           cases (λ (b : Bool). get_or (set seen l.floor true) k false ≡ (b || has_floor k ls)) (eqb l.floor k)
           (λ e. rw (← eqb-true l.floor k e) (get_or-set_same seen l.floor true false (omega (arith, c.size))))
-          (λ e. get_or-set_other seen l.floor k true false (λ w. eqb-false l.floor k e (sym w)) ∙ c.marks k q);
+          (λ e. get_or-set_other seen l.floor k true false (λ w. eqb-false l.floor k e (sym w)) ∙ c.marks k q)
+          ∙ has_permuted k same;
     }

@@ -1,158 +1,233 @@
--- Going down the floors of a column: what is carried at the next floor, and the numbers in the table.
+-- Going down the floors of a column: what is carried at the next floor, and what holds there in the table.
 -- Assumes nothing.
-use mathlib.Core.Path.{◌≡◌, sym, ◌∙◌, ap}
-use mathlib.Core.Bool.{Bool, true, false}
-use mathlib.Core.List.{List, [], ◌∷◌, ◌++◌}
-use Prim.Native.Nat.{ℕ, suc, ◌+◌, ◌-◌, ◌≤◌, ◌<◌}
-use native.Mathlib.Numerals.{add-one}
-use native.Mathlib.Omega.{arith}
-use lib.Dec.{ltb}
-use borrow.Author.Tests.{ltb-true, ltb-false}
-use Rattle.lists.specs.Lists.{All, none, more, keep, total}
-use Rattle.lists.proofs.Tests.{cases}
-use Rattle.lists.proofs.Lists.{all_so, all_first, all_back, all_append}
+use Rattle.std.proofs.Common.{◌≡◌, refl, sym, ◌∙◌, ap, arith, ℕ, zero, suc, ◌+◌, ◌-◌, ◌≤◌, ◌<◌, true, false, eqb, List, [], ◌∷◌, ◌++◌, Option, Some, map, Bool, add-one, length, take, drop, get_or, length-append, append_assoc, append-nil}
+use native.Mathlib.Nat.{add-zero}
+use borrow.Author.Tests.{eqb-true, eqb-false}
+use Rattle.std.specs.List.{IsChunkByPrefix}
+use Rattle.std.proofs.lemmas.List.{map-append, take-append-drop, drop-drop, get_or-drop, get_or_default, get_or_append_left, get_or-append-add}
+use Rattle.std.proofs.Math.Seq.{length-take-le, take-append_seam, drop-append_seam}
+use Rattle.std.proofs.lemmas.List.Sums.{sum_by-append}
+use Rattle.lists.specs.Lists.{All, none, keep, total}
+use Rattle.lists.proofs.Lists.{all_so, all_rest, all_front, all_append}
+use Rattle.member.specs.Between.{between}
 use Rattle.column.specs.declared.Line.{Line}
 use Rattle.column.specs.declared.Member.{Member}
 use Rattle.column.specs.declared.Column.{Column}
-use Rattle.column.specs.Column.{lines_of, column_from, Reached}
-use Rattle.column.specs.inner.Sound.{line_at, lines_before, lines_between}
-use Rattle.column.proofs.Lines.{between_none, between_next, between_split}
-use Rattle.column.proofs.Reach.{sound}
+use Rattle.column.specs.Line.{unpacked}
+use Rattle.column.specs.Column.{lines_of, Reached}
+use Rattle.column.specs.inner.Sound.{InLimits, line_at}
 use Rattle.figure.specs.declared.rates.Shares.{Shares}
+use Rattle.figure.specs.declared.Working.{Working}
 use Rattle.figure.specs.declared.descent.Descent.{Descent}
 use Rattle.figure.specs.Carried.{formula_lines, has_floor, floors_of, area_of, influence_from, influence_of}
 use Rattle.figure.specs.Figure.{figure_of}
 use Rattle.figure.specs.Asked.{working_of, asked_of, asked}
 use Rattle.figure.specs.Lowest.{lowest_figure}
-use Rattle.figure.specs.Workings.{working_numbers, workings_of}
-use Rattle.figure.specs.inner.Totals.{formula_area, SumOf, At, DownTo, Below, NotAbove}
-use Rattle.figure.specs.inner.Rates.{shares_at, figure_by}
-use Rattle.figure.specs.inner.Descent.{FloorEndOf, three_put, Descended, NextOf}
-use Rattle.figure.proofs.Carried.{Other, has_none, has_in, floors_run, carried_front, area_total}
-use Rattle.figure.proofs.Order.{reached_ordered}
+use Rattle.figure.specs.Workings.{working_said, workings_of}
+use Rattle.figure.specs.inner.Totals.{formula_area, Lined, areas, figures, At, DownTo, Below, Ordered}
+use Rattle.figure.specs.inner.Rates.{shares_at}
+use Rattle.figure.specs.inner.Descent.{RunAt, working_put, Descended, NextOf}
+use Rattle.figure.proofs.Carried.{Other, has_none, has_at, floors_run, carried_front}
+use Rattle.figure.proofs.Order.{ordered_back}
 use Rattle.figure.proofs.Lowest.{lowest_all}
-use Rattle.figure.proofs.HeldLines.{room, held_before, held_at, line_between, above_at, after_at, sum_none}
+use Rattle.figure.proofs.HeldLines.{all_of, each_of, in_order, split_at, lined_drop, areas_total, figures_total}
 use Rattle.figure.proofs.Workings.{passed_to, passed_over, passed_put, passed_all}
 
-module _ {m : Member} {count : ℕ} {places : List ℕ} where
-  -- the walk begins above the first line
-  pub descended_top : Reached (column_from m count places) → (s : Shares) → s ≡ shares_at 0 (influence_from m 0)
-      → Descended m count places (record { lines = 0; floor = 0; area = record { 0 = 0 }; shares = s; figure = 0 })
-  unfolding lines_of shares_at floors_of influence_of area_of formula_lines keep total
-  descended_top r s e =
+-- ---- the lines of one floor, as neighbours show it
+
+abbrev pub same_floor : ℕ → ℕ → Bool
+same_floor x y = eqb (unpacked x).floor (unpacked y).floor
+
+module _ (rest run back : List ℕ) (is : rest ≡ run ++ back) (some : 0 < length run) (cut : IsChunkByPrefix same_floor rest (length run)) where
+  -- neighbours among them have one floor, so all have that of the first
+  floor_of_run : (k d : ℕ) → k < length run → (unpacked (get_or run k d)).floor ≡ (line_at run 0).floor
+  floor_of_run zero d h = ap (λ (n : ℕ). (unpacked n).floor) (get_or_default run 0 d 0 h)
+  floor_of_run (suc k) d h =
+      let pair : (unpacked (get_or run k d)).floor ≡ (unpacked (get_or run (k + 1) d)).floor =
+      rw (is, get_or_append_left run back d k (omega arith), get_or_append_left run back d (k + 1) (omega arith)) at (eqb-true (unpacked (get_or rest k d)).floor (unpacked (get_or rest (k + 1) d)).floor (cut.0 k d (omega arith))) in
+      sym (rw (add-one k) at pair) ∙ floor_of_run k d (omega arith)
+
+  -- the line after them has another, and in lines in order a lower one
+  back_below : Ordered (map unpacked rest) → (j d : ℕ) → j < length back → (line_at run 0).floor < (unpacked (get_or back j d)).floor
+  back_below o j d h =
+      let n = length run in
+      let size : length rest ≡ n + length back = ap length is ∙ length-append run back in
+      let last : get_or rest (n - 1) d ≡ get_or run (n - 1) d = rw is (get_or_append_left run back d (n - 1) (omega arith)) in
+      let here : get_or rest (n + j) d ≡ get_or back j d = rw is (get_or-append-add run back j d) in
+      let new = eqb-false (unpacked (get_or rest (n - 1) d)).floor (unpacked (get_or rest n d)).floor (cut.1 (omega (arith, size)) d) in
+      let down = in_order rest o (n - 1) n d (omega arith) (omega (arith, size)) in
+      let further = in_order rest o n (n + j) d (omega arith) (omega (arith, size)) in
+      let first = ap (λ (m : ℕ). (unpacked m).floor) last ∙ floor_of_run (n - 1) d (omega arith) in
+      let end = ap (λ (m : ℕ). (unpacked m).floor) here in
+      omega (arith, new, down, further, first, end)
+
+pub run_at : (ns : List ℕ) (first : ℕ) (rest run back : List ℕ) → Ordered (map unpacked ns) → rest ≡ drop first ns → rest ≡ run ++ back → 0 < length run
+    → IsChunkByPrefix same_floor rest (length run) → RunAt ns first run
+run_at ns first rest run back o here is some cut =
+    let order : Ordered (map unpacked rest) = rw here (ordered_back (map unpacked (take first ns)) (rw (split_at first ns) at o)) in
+    record {
+      rest = back;
+      is = sym here ∙ is;
+      some = some;
+      same = all_of {P = At (line_at run 0).floor} run (λ k d h. floor_of_run rest run back is some cut k d h);
+      below = all_of {P = Below (line_at run 0).floor} back (λ j d h. back_below rest run back is some cut order j d h);
+    }
+
+-- what is left after them
+pub rest_after : (ns : List ℕ) (first : ℕ) (run back : List ℕ) → drop first ns ≡ run ++ back → drop (first + length run) ns ≡ back
+rest_after ns first run back e = sym (drop-drop (length run) first ns) ∙ (ap (drop (length run)) e ∙ drop-append_seam run back)
+
+-- ---- the walk
+
+-- it begins above the first line
+pub descended_top : (m : Member) (ns : List ℕ) (s : Shares) → between 1 12 m.code ≡ true → Lined ns → Ordered (map unpacked ns) → s ≡ shares_at 0 (influence_from m 0)
+    → Descended m ns (record { lines = 0; floor = 0; area = record { 0 = 0 }; shares = s; figure = 0 })
+unfolding shares_at floors_of influence_of area_of formula_lines keep total
+descended_top m ns s code ok o e =
+    record {
+      code = code;
+      lined = ok;
+      ordered = o;
+      few = omega arith;
+      floor_most = omega arith;
+      above = none;
+      below = all_so {P = InLimits} {Q = Below 0} (λ l h. h.floor.0) (all_of {P = InLimits} ns ok.1);
+      floors_most = omega (arith, ap (λ (t : Shares). t.floors) e);
+      shares = e;
+      area = refl;
+      figure = refl;
+    }
+
+-- the lines to before the new ones, the new ones, and those after them
+module _ {ns : List ℕ} {first : ℕ} {run : List ℕ} (few : first ≤ length ns) (r : RunAt ns first run) where
+  size : length (take first ns) ≡ first
+  size = length-take-le first ns few
+
+  whole : (take first ns ++ run) ++ r.rest ≡ ns
+  whole = append_assoc (take first ns) run r.rest ∙ (ap (λ (l : List ℕ). take first ns ++ l) (sym r.is) ∙ take-append-drop first ns)
+
+  seam : length (take first ns ++ run) ≡ first + length run
+  seam = length-append (take first ns) run ∙ ap (λ (n : ℕ). n + length run) size
+
+  pub run_inside : first + length run ≤ length ns
+  run_inside = omega (arith, ap length whole, length-append (take first ns ++ run) r.rest, seam)
+
+  pub run_front : take (first + length run) ns ≡ take first ns ++ run
+  run_front = ap (take (first + length run)) (sym whole) ∙ (ap (λ (n : ℕ). take n ((take first ns ++ run) ++ r.rest)) (sym seam) ∙ take-append_seam (take first ns ++ run) r.rest)
+
+  pub run_rest : drop (first + length run) ns ≡ r.rest
+  run_rest = rest_after ns first run r.rest r.is
+
+  -- the new lines are lines of the column
+  pub run_lined : Lined ns → Lined run
+  run_lined ok =
+      (omega (arith, ok.0, run_inside), each_of run (all_front (map unpacked run) (map unpacked r.rest) (rw (r.is, map-append unpacked run r.rest) at (all_of {P = InLimits} (drop first ns) (lined_drop first ns ok).1))))
+
+-- they are one floor more where no line before them has it
+floors_with : (ls : List Line) (run : List ℕ) → 0 < length run → All (Other (line_at run 0).floor) ls → All (At (line_at run 0).floor) (map unpacked run)
+    → floors_of (ls ++ map unpacked run) ≡ floors_of ls + 1
+floors_with ls [] h o a = absurd (omega arith)
+floors_with ls (n ∷ run) h o a = floors_run (unpacked n).floor o (unpacked n) refl (all_rest a)
+
+-- what is carried where the lines of the next floor end
+module _ {m : Member} {ns : List ℕ} {d : Descent} {run : List ℕ} (h : Descended m ns d) (r : RunAt ns d.lines run) where
+  abbrev line : Line
+  line = line_at run 0
+
+  abbrev front : List Line
+  front = map unpacked (take d.lines ns)
+
+  both : map unpacked (take (d.lines + length run) ns) ≡ front ++ map unpacked run
+  both = ap (map unpacked) (run_front h.few r) ∙ map-append unpacked (take d.lines ns) run
+
+  lower : d.floor < line.floor
+  lower = each_of {P = Below d.floor} run (all_front (map unpacked run) (map unpacked r.rest) (rw (r.is, map-append unpacked run r.rest) at h.below)) 0 0 r.some
+
+  floors : floors_of (map unpacked (take (d.lines + length run) ns)) ≡ d.shares.floors + 1
+  unfolding shares_at
+  floors = rw (both, h.shares) (floors_with front run r.some (all_so {P = DownTo d.floor} {Q = Other line.floor} (λ l q e. omega (arith, lower)) h.above) r.same)
+
+  -- their formula lines' area is that above and that of the new ones
+  pub run_areas : areas (take (d.lines + length run) ns) ≡ d.area.0 + areas run
+  run_areas = rw (run_front h.few r, h.area) (sum_by-append (λ k. formula_area (unpacked k)) (take d.lines ns) run)
+
+  pub next_of : (n : Descent) → n.lines ≡ d.lines + length run → n.floor ≡ line.floor → n.area.0 ≡ d.area.0 + areas run
+      → n.shares ≡ shares_at (d.shares.floors + 1) (influence_from m n.area.0)
+      → n.figure ≡ figures n.shares (take (d.lines + length run) ns) → NextOf m ns d run n
+  unfolding influence_of shares_at
+  next_of n lines floor area shares figure =
+      let areas_are : n.area.0 ≡ areas (take n.lines ns) = rw (lines, area) (sym run_areas) in
       record {
-        sound = sound r;
-        ordered = reached_ordered r;
-        few = omega arith;
-        floor_most = omega arith;
-        above = none;
-        next = λ h. (held_at (sound r).held 0 h).floor.0;
-        floors_most = omega (arith, ap (λ (t : Shares). t.floors) e);
-        shares = e;
-        area = sum_none 0;
-        figure = sum_none 0;
+        descended =
+            record {
+              code = h.code;
+              lined = h.lined;
+              ordered = h.ordered;
+              few = rw lines (run_inside h.few r);
+              floor_most = rw floor (each_of {P = InLimits} run (all_of {P = InLimits} run (run_lined h.few r h.lined).1) 0 0 r.some).floor.1;
+              above = rw (lines, floor, both) (all_append (all_so {P = DownTo d.floor} {Q = DownTo line.floor} (λ l q. omega (arith, lower)) h.above) (all_so {P = At line.floor} {Q = DownTo line.floor} (λ l q. omega (arith, q)) r.same));
+              below = rw (lines, floor, run_rest h.few r) r.below;
+              floors_most = omega (arith, ap (λ (s : Shares). s.floors) shares, h.floors_most, lines, r.some);
+              shares = shares ∙ rw (areas_are, areas_total (take n.lines ns), lines, floors);
+              area = areas_are;
+              figure = rw lines figure;
+            };
+        lines = lines;
+        floor = floor;
       }
 
-  module _ {d : Descent} (h : Descended m count places d) where
-    abbrev c : Column
-    c = column_from m count places
+-- what is known of the walk in the table
+module _ (c : Column) {ns : List ℕ} (seen : map unpacked ns ≡ lines_of c) where
+  module _ {d : Descent} (h : Descended c.member ns d) where
+    split : lines_of c ≡ map unpacked (take d.lines ns) ++ map unpacked (drop d.lines ns)
+    split = sym seen ∙ split_at d.lines ns
 
-    -- its lines are those before the place and those from there on
-    both : lines_of c ≡ lines_before places d.lines ++ lines_between places d.lines count
-    unfolding lines_of
-    both = between_split places 0 d.lines count (omega arith) h.few (room h.sound.held)
-
-    -- the lines from there on are below a floor where the first of them is
-    below : (f : ℕ) → (d.lines < count → f < (line_at places d.lines).floor) → All (Below f) (lines_between places d.lines count)
-    below f low =
-        cases (λ (b : Bool). All (Below f) (lines_between places d.lines count)) (ltb d.lines count)
-        (λ e. let k : d.lines < count = ltb-true d.lines count e in
-        let rest = after_at h.sound.held h.ordered d.lines k in
-        rw (between_next places d.lines count k (room h.sound.held))
-        (more (low k) (all_so {P = NotAbove (line_at places d.lines).floor} {Q = Below f} (λ l q. omega (arith, low k)) rest)))
-        (λ e. let end : d.lines ≡ count = omega (arith, ltb-false d.lines count e, h.few) in
-        rw (end, between_none places count) none)
-
-    -- so no line has a floor between that of the last one carried and theirs
-    none_at : (f : ℕ) → d.floor < f → (d.lines < count → f < (line_at places d.lines).floor) → has_floor f (lines_of c) ≡ false
+    -- no line has a floor between that of the last one carried and those of the others
+    none_at : (f : ℕ) → d.floor < f → All (Below f) (map unpacked (drop d.lines ns)) → has_floor f (lines_of c) ≡ false
     none_at f low high =
-        let above = all_so {P = DownTo d.floor} {Q = Other f} (λ l q e. omega arith) h.above in
-        rw both (has_none f (all_append above (all_so {P = Below f} {Q = Other f} (λ l q e. omega arith) (below f high))))
+        rw split (has_none f (all_append (all_so {P = DownTo d.floor} {Q = Other f} (λ l q e. omega arith) h.above) (all_so {P = Below f} {Q = Other f} (λ l q e. omega arith) high)))
 
     -- the lines before the place are those carried, so what holds of them is what asking at the floor gives
-    numbers_here : has_floor d.floor (lines_of c) ≡ true → working_numbers (asked c d.floor) ≡ d.shares.floors ∷ (d.shares.influence.0 ∷ (d.figure ∷ []))
-    unfolding asked_of working_of working_numbers figure_of shares_at
-    numbers_here has = rw (has, both, carried_front d.floor h.above (below d.floor h.next), h.figure.is, h.shares)
+    working_here : has_floor d.floor (lines_of c) ≡ true
+        → working_said (asked c d.floor) ≡ Some (record { floors = d.shares.floors; influence = d.shares.influence; figure = d.figure })
+    unfolding asked_of working_of working_said figure_of shares_at
+    working_here has =
+        rw (has, split, carried_front d.floor h.above h.below, h.figure, figures_total d.shares (take d.lines ns), h.shares)
 
     -- at the end of the lines the table has every floor
-    pub all_passed : d.lines ≡ count → passed_to c d.floor ≡ workings_of c 64
+    pub all_passed : drop d.lines ns ≡ [] → passed_to c d.floor ≡ workings_of c 64
     all_passed e =
-        passed_over c (64 - d.floor) d.floor 64 (omega (arith, h.floor_most)) (omega arith) (λ f low high. none_at f low (λ k. absurd (omega arith)))
+        passed_over c (64 - d.floor) d.floor 64 (omega (arith, h.floor_most)) (omega arith) (λ f low high. none_at f low (rw e none))
         ∙ passed_all c
 
     -- and the figure is that of all lines
-    pub all_summed : Reached c → d.lines ≡ count → d.figure ≡ lowest_figure m (lines_of c)
-    unfolding lines_of figure_of shares_at
-    all_summed r e = rw (h.figure.is, h.shares, e) (sym (lowest_all r))
+    pub all_summed : Reached c → drop d.lines ns ≡ [] → d.figure ≡ lowest_figure c.member (lines_of c)
+    unfolding figure_of shares_at
+    all_summed r e =
+        let all : take d.lines ns ≡ ns = sym (append-nil (take d.lines ns)) ∙ (ap (λ (l : List ℕ). take d.lines ns ++ l) (sym e) ∙ take-append-drop d.lines ns) in
+        rw (h.figure, figures_total d.shares (take d.lines ns), h.shares, all, seen) (sym (lowest_all r))
 
-  -- what is carried where the lines of the next floor end
-  module _ {d : Descent} (n : Descent) (h : Descended m count places d) (k : d.lines < count) (at : n.floor ≡ (line_at places d.lines).floor) (e : FloorEndOf count places (d.lines + 1) n.floor n.lines) where
-    abbrev line : Line
-    line = line_at places d.lines
+  -- the next floor's working put into the table
+  module _ {d n : Descent} {run : List ℕ} (h : Descended c.member ns d) (r : RunAt ns d.lines run) (q : NextOf c.member ns d run n) where
+    pub lower_floor : d.floor < n.floor
+    lower_floor = rw q.floor (lower h r)
 
-    front : lines_before places n.lines ≡ lines_before places d.lines ++ (line ∷ lines_between places (d.lines + 1) n.lines)
-    front = rw (add-one d.lines) (line_between (held_before h.sound.held n.lines e.few) d.lines (omega (arith, e.low)))
+    has : has_floor n.floor (lines_of c) ≡ true
+    has =
+        rw (← seen)
+        (has_at n.floor ns d.lines 0 (omega (arith, run_inside h.few r, r.some))
+        (ap (λ (k : ℕ). (unpacked k).floor) first ∙ sym q.floor))
+      where
+        first : get_or ns d.lines 0 ≡ get_or run 0 0
+        first = rw (← add-zero d.lines, ← get_or-drop d.lines ns 0 0, r.is) (get_or_append_left run r.rest 0 0 r.some)
 
-    after : n.lines < count → n.floor < (line_at places n.lines).floor
-    after q =
-        let last = (line_at places n.lines).floor in
-        let low : line.floor ≤ last = all_first {P = DownTo last} (all_back (lines_before places d.lines) (rw front at (above_at h.sound.held h.ordered n.lines q))) in
-        omega (arith, at, e.other q)
-
-    floors : floors_of (lines_before places n.lines) ≡ d.shares.floors + 1
-    unfolding shares_at
-    floors =
-        let others = all_so {P = DownTo d.floor} {Q = Other n.floor} (λ l q p. omega (arith, at, h.next k)) h.above in
-        rw (front, h.shares) (floors_run n.floor others line (sym at) e.same)
-
-    pub next_of : SumOf formula_area 200000 places 0 n.lines n.area.0 → n.shares ≡ shares_at (d.shares.floors + 1) (influence_from m n.area.0)
-        → SumOf (figure_by n.shares) 10000000000 places 0 n.lines n.figure → NextOf m count places d n
-    unfolding influence_of shares_at
-    next_of area shares figure =
-        let same = all_so {P = At n.floor} {Q = DownTo line.floor} (λ l q. omega (arith, at)) e.same in
-        record {
-          descended =
-              record {
-                sound = h.sound;
-                ordered = h.ordered;
-                few = e.few;
-                floor_most = rw at (held_at h.sound.held d.lines k).floor.1;
-                above = rw (at, front) (all_append (above_at h.sound.held h.ordered d.lines k) (more (omega arith) same));
-                next = after;
-                floors_most = omega (arith, ap (λ (s : Shares). s.floors) shares, h.floors_most, e.low);
-                shares = shares ∙ rw (area.is, ← area_total (lines_before places n.lines), floors);
-                area = area;
-                figure = figure;
-              };
-          some = omega (arith, e.low);
-          floor = at;
-        }
-
-  -- the next floor's numbers put into the table
-  module _ {d n : Descent} (h : Descended m count places d) (q : NextOf m count places d n) where
-    some_left : d.lines < count
-    some_left = omega (arith, q.some, q.descended.few)
-
-    pub lower : d.floor < n.floor
-    lower = rw q.floor (h.next some_left)
-
-    has : has_floor n.floor (lines_of (c h)) ≡ true
-    unfolding lines_of
-    has = rw (q.floor, line_between h.sound.held d.lines some_left) (has_in (lines_before places d.lines) (line_at places d.lines) _)
-
-    pub next_put : {table : List ℕ} → table ≡ passed_to (c h) d.floor → three_put table n ≡ passed_to (c h) n.floor
+    pub next_put : {table : List (Option Working)} → table ≡ passed_to c d.floor → working_put table n ≡ passed_to c n.floor
     next_put e =
         let f = n.floor - 1 in
-        let at : suc f ≡ n.floor = omega (arith, lower) in
-        let over = passed_over (c h) (f - d.floor) d.floor f (omega (arith, lower)) (omega (arith, q.descended.floor_most)) (λ i low high. none_at h i low (λ k. omega (arith, lower, q.floor))) in
-        rw (e, over) (passed_put (c h) f (omega (arith, q.descended.floor_most)) (rw at (numbers_here q.descended has)) ∙ ap (passed_to (c h)) at)
+        let at : suc f ≡ n.floor = omega (arith, lower_floor) in
+        let new : All (At n.floor) (map unpacked run) = rw (← q.floor) at r.same in
+        let after : All (Below n.floor) (map unpacked r.rest) = rw (← q.floor) at r.below in
+        let left : map unpacked (drop d.lines ns) ≡ map unpacked run ++ map unpacked r.rest = ap (map unpacked) r.is ∙ map-append unpacked run r.rest in
+        let over = passed_over c (f - d.floor) d.floor f (omega (arith, lower_floor)) (omega (arith, q.descended.floor_most))
+        (λ i low high. none_at h i low (rw left (all_append (all_so {P = At n.floor} {Q = Below i} (λ l p. omega (arith, lower_floor)) new) (all_so {P = Below n.floor} {Q = Below i} (λ l p. omega (arith, lower_floor)) after)))) in
+        rw (e, over) (passed_put c f (omega (arith, q.descended.floor_most, lower_floor)) (rw at (working_here q.descended has)) ∙ ap (passed_to c) at)

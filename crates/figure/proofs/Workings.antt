@@ -1,50 +1,42 @@
--- The numbers of every floor's working in a table, three a floor.
+-- What holds at every floor in a table, a place a floor.
 -- Assumes nothing.
-use mathlib.Core.Path.{◌≡◌, refl, sym, ◌∙◌, ap}
-use mathlib.Core.Bool.{false}
-use mathlib.Core.List.{List, [], ◌∷◌, ◌++◌, append-nil, append_assoc}
-use Prim.Native.Nat.{ℕ, zero, suc, ◌+◌, ◌*◌, ◌-◌, ◌≤◌, ◌<◌}
-use native.Mathlib.Omega.{arith}
-use lib.ListN.{length, drop, set, replicate, length-append, length-replicate}
-use lib.Seq.{sets-eq, take_at, drop-append-add}
-use Rattle.refusal.specs.Said.{Said, gives, refused}
+use Rattle.std.proofs.Common.{◌≡◌, refl, sym, ◌∙◌, ap, arith, ℕ, zero, suc, ◌+◌, ◌-◌, ◌≤◌, ◌<◌, false, List, [], ◌∷◌, ◌++◌, Option, None, length, set, replicate, length-append, append-nil, append_assoc}
+use lib.ListN.{length-replicate}
 use Rattle.column.specs.declared.Column.{Column}
 use Rattle.figure.specs.declared.Working.{Working}
 use Rattle.figure.specs.Carried.{has_floor}
 use Rattle.column.specs.Column.{lines_of}
 use Rattle.figure.specs.Asked.{asked_of, asked}
-use Rattle.figure.specs.Workings.{working_numbers, workings_of}
+use Rattle.figure.specs.Workings.{working_said, workings_of}
 
-pub numbers_three : (s : Said Working) → length (working_numbers s) ≡ 3
-unfolding working_numbers
-numbers_three (gives w) = refl
-numbers_three (refused n _) = refl
-
-pub workings_length : (c : Column) (f : ℕ) → length (workings_of c f) ≡ 3 * f
+pub workings_length : (c : Column) (f : ℕ) → length (workings_of c f) ≡ f
 unfolding workings_of
 workings_length c zero = refl
 workings_length c (suc f) =
-    length-append (workings_of c f) (working_numbers (asked c (suc f)))
-    ∙ rw (workings_length c f, numbers_three (asked c (suc f))) (omega arith)
+    length-append (workings_of c f) (working_said (asked c (suc f)) ∷ []) ∙ omega (arith, workings_length c f)
 
--- so many zeros
-abbrev zeros : ℕ → List ℕ
-zeros n = replicate n 0
+-- so many floors without lines
+abbrev nones : ℕ → List (Option Working)
+nones n = replicate n None
 
--- the table where floor f is passed: the numbers of every floor to it, then zeros
-unfoldable pub passed_to : Column → ℕ → List ℕ
-passed_to c f = workings_of c f ++ zeros (192 - 3 * f)
+-- the table where floor f is passed: what holds at every floor to it, then nothing
+unfoldable pub passed_to : Column → ℕ → List (Option Working)
+passed_to c f = workings_of c f ++ nones (64 - f)
 
--- the three zeros of the next floor
-next_zeros : (f : ℕ) → f < 64 → zeros (192 - 3 * f) ≡ 0 ∷ (0 ∷ (0 ∷ zeros (192 - 3 * suc f)))
-next_zeros f h =
-    let e : 192 - 3 * f ≡ suc (suc (suc (192 - 3 * suc f))) = omega arith in
-    ap zeros e
+next_none : (f : ℕ) → f < 64 → nones (64 - f) ≡ None ∷ nones (64 - suc f)
+next_none f h = let e : 64 - f ≡ suc (64 - suc f) = omega arith in ap nones e
+
+-- the place after some is that of the first one left
+set_next : {A : Type 0} (xs ys : List A) (y x : A) (k : ℕ) → length xs ≡ k → set (xs ++ (y ∷ ys)) k x ≡ (xs ++ (x ∷ [])) ++ ys
+set_next [] ys y x zero e = refl
+set_next [] ys y x (suc k) e = absurd (omega (arith, e))
+set_next (z ∷ xs) ys y x zero e = absurd (omega (arith, e))
+set_next {A} (z ∷ xs) ys y x (suc k) e = ap (λ (l : List A). z ∷ l) (set_next xs ys y x k (omega (arith, e)))
 
 module _ (c : Column) where
   passed_one : (f : ℕ) → f < 64 → has_floor (suc f) (lines_of c) ≡ false → passed_to c f ≡ passed_to c (suc f)
-  unfolding passed_to workings_of working_numbers asked_of
-  passed_one f h e = rw (e, next_zeros f h) (sym (append_assoc (workings_of c f) (0 ∷ (0 ∷ (0 ∷ []))) (zeros (192 - 3 * suc f))))
+  unfolding passed_to workings_of working_said asked_of
+  passed_one f h e = rw (e, next_none f h) (sym (append_assoc (workings_of c f) (None ∷ []) (nones (64 - suc f))))
 
   -- floors without lines are passed over
   pub passed_over : (d f g : ℕ) → f + d ≡ g → g ≤ 64 → ((k : ℕ) → f < k → k ≤ g → has_floor k (lines_of c) ≡ false) → passed_to c f ≡ passed_to c g
@@ -53,30 +45,19 @@ module _ (c : Column) where
       passed_one f (omega arith) (p (suc f) (omega arith) (omega arith))
       ∙ passed_over d (suc f) g (omega arith) h (λ k q. p k (omega arith))
 
-  pub passed_length : (f : ℕ) → f ≤ 64 → length (passed_to c f) ≡ 192
+  pub passed_length : (f : ℕ) → f ≤ 64 → length (passed_to c f) ≡ 64
   unfolding passed_to
   passed_length f h =
-      length-append (workings_of c f) (zeros (192 - 3 * f))
-      ∙ rw (workings_length c f, length-replicate {A = ℕ} (192 - 3 * f) 0) (omega arith)
+      length-append (workings_of c f) (nones (64 - f))
+      ∙ rw (workings_length c f, length-replicate {A = Option Working} (64 - f) None) (omega arith)
 
-  -- the numbers of the next floor are put after those of the floors passed
-  pub passed_put : {n x r : ℕ} (f : ℕ) → f < 64 → working_numbers (asked c (suc f)) ≡ n ∷ (x ∷ (r ∷ []))
-      → set (set (set (passed_to c f) (3 * f) n) (3 * f + 1) x) (3 * f + 2) r ≡ passed_to c (suc f)
+  -- what holds at the next floor is put after the floors passed
+  pub passed_put : {w : Option Working} (f : ℕ) → f < 64 → working_said (asked c (suc f)) ≡ w → set (passed_to c f) f w ≡ passed_to c (suc f)
   unfolding passed_to workings_of
-  passed_put {n} {x} {r} f h e =
-      let done = workings_of c f in
-      let left = zeros (192 - 3 * f) in
-      let size = workings_length c f in
-      let second : 3 * f + 1 ≡ suc (3 * f) = omega arith in
-      let third : 3 * f + 2 ≡ suc (suc (3 * f)) = omega arith in
-      let rest : drop (3 * f + 3) (done ++ left) ≡ zeros (192 - 3 * suc f) =
-      ap (λ (n : ℕ). drop (n + 3) (done ++ left)) (sym size) ∙ (drop-append-add done left 3 ∙ ap (drop 3) (next_zeros f h)) in
-      rw (second, third)
-      (sets-eq (n ∷ (x ∷ (r ∷ []))) (done ++ left) (3 * f) (omega (arith, passed_length f (omega arith)))
-      ∙ rw (take_at done left (3 * f) size, rest, e))
+  passed_put {w} f h e = rw (next_none f h, e) (set_next (workings_of c f) (nones (64 - suc f)) None w f (workings_length c f))
 
   -- before any, and after all
-  pub passed_none : passed_to c 0 ≡ zeros 192
+  pub passed_none : passed_to c 0 ≡ nones 64
   unfolding passed_to workings_of
   passed_none = refl
 

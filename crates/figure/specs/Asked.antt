@@ -6,8 +6,6 @@ use Rattle.column.specs.declared.Line.{Line}
 use Rattle.column.specs.declared.Member.{Member}
 use Rattle.column.specs.declared.Column.{Column}
 use Rattle.figure.specs.declared.Working.{Working}
-use Rattle.figure.specs.declared.Asked.{Asked}
-use Rattle.figure.specs.declared.Asked.TheVariants as asked-variants
 use Rattle.figure.specs.Carried.{carried, has_floor, floors_of, influence_of}
 use Rattle.figure.specs.Figure.{figure_of}
 use Rattle.column.specs.Column.{lines_of}
@@ -28,8 +26,3 @@ asked_of m ls f = cond (has_floor f ls) (gives (working_of m ls f)) (refused 7 n
 -- 01, Numbers by the place of checking: asking a column at a floor
 abbrev pub asked : Column → ℕ → Said Working
 asked c f = asked_of c.member (lines_of c) f
-
--- 01, Where each language form belongs: the number and the values of each case of what asking gives
-unfoldable pub said_working : Asked → Said Working
-said_working (asked-variants.Gives w) = gives w
-said_working (asked-variants.Refused n) = refused n nothing

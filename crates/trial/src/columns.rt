@@ -3,7 +3,7 @@ ghost use Rattle.column.specs.Column.{Reached};
 
 use column::{Column, Line};
 use error_bound::AfterList;
-use figure::Asked;
+use figure::Working;
 use refusal::Refusal;
 use std::alloc::{AllocError, Global};
 
@@ -58,7 +58,7 @@ impl State {
 
     // Asks the column at a floor.
     #[tactic(auto, using(crate::proofs::Reached::reached_anyhow))]
-    pub fn ask(&self, floor: u64) -> Asked {
+    pub fn ask(&self, floor: u64) -> Result<Working, Refusal> {
         figure::ask(self.column, floor)
     }
 

@@ -1,24 +1,27 @@
 // Prints answers, a line each.
 use error_bound::AfterList;
-use figure::Asked;
+use figure::Working;
 use refusal::Refusal;
 use std::io::Write;
 use std::{fmt, io};
 
 // What asking at a floor gave: n, X and the figure, or the number of the refusal.
 #[derive(Clone, Copy)]
-struct AtFloor(Asked);
+struct AtFloor(Result<Working, Refusal>);
 
 impl fmt::Display for AtFloor {
     fn fmt<W: fmt::Write>(&self, f: &mut fmt::Formatter<W>) -> fmt::Result {
         match self.0 {
-            Asked::Gives(working) => {
+            Ok(working) => {
                 let floors = working.floors;
                 let influence = working.influence.0;
                 let figure = working.figure;
                 write!(f, "floors={floors} influence={influence} figure={figure}")
             }
-            Asked::Refused(number) => write!(f, "refused={number}"),
+            Err(refusal) => {
+                let number = refusal.number();
+                write!(f, "refused={number}")
+            }
         }
     }
 }
@@ -50,7 +53,7 @@ pub fn print_number<W: Write>(out: &mut W, outcome: Result<(), Refusal>) -> io::
 }
 
 // Prints what asking at a floor gave.
-pub fn print_asked<W: Write>(out: &mut W, asked: Asked) -> io::Result<()> {
+pub fn print_asked<W: Write>(out: &mut W, asked: Result<Working, Refusal>) -> io::Result<()> {
     let at_floor = AtFloor(asked);
     writeln!(out, "{at_floor}")
 }
@@ -59,8 +62,10 @@ pub fn print_asked<W: Write>(out: &mut W, asked: Asked) -> io::Result<()> {
 pub fn print_after<W: Write>(out: &mut W, answer: AfterList) -> io::Result<()> {
     let at_floor = AtFloor(answer.asked);
     let count = answer.refusals.count;
-    let first = answer.refusals.number;
-    let place = answer.refusals.place;
+    let (first, place) = match answer.refusals.first {
+        Some(refused) => (refused.refusal.number(), refused.back),
+        None => (0, 0),
+    };
     writeln!(
         out,
         "{at_floor} refusals={count} first={first} place={place}"

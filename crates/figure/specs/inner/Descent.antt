@@ -1,44 +1,46 @@
 -- What the private functions that go down the floors have found.
 -- Assumes nothing.
-use Rattle.std.specs.Prelude.{◌≡◌, List, ℕ, ◌+◌, ◌*◌, ◌-◌, ◌≤◌, ◌<◌, set}
+use Rattle.std.specs.Prelude.{◌≡◌, true, List, ◌++◌, map, ℕ, ◌+◌, ◌-◌, ◌≤◌, ◌<◌, Option, Some, length, take, drop, set}
 use Rattle.lists.specs.Lists.{All}
+use Rattle.member.specs.Between.{between}
 use Rattle.column.specs.declared.Member.{Member}
-use Rattle.column.specs.Line.{lowest_floor}
-use Rattle.column.specs.Column.{column_from}
-use Rattle.column.specs.inner.Sound.{Sound, line_at, lines_before, lines_between}
+use Rattle.column.specs.Line.{lowest_floor, unpacked}
+use Rattle.column.specs.inner.Sound.{line_at}
+use Rattle.figure.specs.declared.Working.{Working}
 use Rattle.figure.specs.declared.descent.Descent.{Descent}
 use Rattle.figure.specs.Carried.{floors_of, influence_of}
-use Rattle.figure.specs.inner.Totals.{formula_area, SumOf, At, DownTo, Ordered}
-use Rattle.figure.specs.inner.Rates.{shares_at, figure_by}
+use Rattle.figure.specs.inner.Totals.{Lined, areas, figures, At, DownTo, Below, Ordered}
+use Rattle.figure.specs.inner.Rates.{shares_at}
 
--- where the lines of a floor end, from a place on
-pub record FloorEndOf (count : ℕ) (places : List ℕ) (first floor end : ℕ) : Type 0 where
-  pub low : first ≤ end
-  pub few : end ≤ count
-  pub same : All (At floor) (lines_between places first end)
-  pub other : end < count → (line_at places end).floor ≡ floor → ⊥
+-- all the lines of a floor, which stand together from a place on; those after them are below it
+pub record RunAt (ns : List ℕ) (first : ℕ) (run : List ℕ) : Type 0 where
+  pub rest : List ℕ
+  pub is : drop first ns ≡ run ++ rest
+  pub some : 0 < length run
+  pub same : All (At (line_at run 0).floor) (map unpacked run)
+  pub below : All (Below (line_at run 0).floor) (map unpacked rest)
 
--- n, X and the figure put at the three numbers of a floor
-abbrev pub three_put : List ℕ → Descent → List ℕ
-three_put table d =
-    let at = 3 * (d.floor - 1) in
-    set (set (set table at d.shares.floors) (at + 1) d.shares.influence.0) (at + 2) d.figure
+-- n, X and the figure put at a floor's place
+abbrev pub working_put : List (Option Working) → Descent → List (Option Working)
+working_put table d =
+    set table (d.floor - 1) (Some (record { floors = d.shares.floors; influence = d.shares.influence; figure = d.figure }))
 
 -- in a column with its lines in order, those before a place are those carried at a floor, and what holds of them
-pub record Descended (m : Member) (count : ℕ) (places : List ℕ) (d : Descent) : Type 0 where
-  pub sound : Sound (column_from m count places)
-  pub ordered : Ordered (lines_before places count)
-  pub few : d.lines ≤ count
+pub record Descended (m : Member) (ns : List ℕ) (d : Descent) : Type 0 where
+  pub code : between 1 12 m.code ≡ true
+  pub lined : Lined ns
+  pub ordered : Ordered (map unpacked ns)
+  pub few : d.lines ≤ length ns
   pub floor_most : d.floor ≤ lowest_floor
-  pub above : All (DownTo d.floor) (lines_before places d.lines)
-  pub next : d.lines < count → d.floor < (line_at places d.lines).floor
+  pub above : All (DownTo d.floor) (map unpacked (take d.lines ns))
+  pub below : All (Below d.floor) (map unpacked (drop d.lines ns))
   pub floors_most : d.shares.floors ≤ d.lines
-  pub shares : d.shares ≡ shares_at (floors_of (lines_before places d.lines)) (influence_of m (lines_before places d.lines))
-  pub area : SumOf formula_area 200000 places 0 d.lines d.area.0
-  pub figure : SumOf (figure_by d.shares) 10000000000 places 0 d.lines d.figure
+  pub shares : d.shares ≡ shares_at (floors_of (map unpacked (take d.lines ns))) (influence_of m (map unpacked (take d.lines ns)))
+  pub area : d.area.0 ≡ areas (take d.lines ns)
+  pub figure : d.figure ≡ figures d.shares (take d.lines ns)
 
--- one floor further down, which is that of the line where the walk was
-pub record NextOf (m : Member) (count : ℕ) (places : List ℕ) (above d : Descent) : Type 0 where
-  pub descended : Descended m count places d
-  pub some : above.lines < d.lines
-  pub floor : d.floor ≡ (line_at places above.lines).floor
+-- one floor further down, which is that of the first of the new lines
+pub record NextOf (m : Member) (ns : List ℕ) (above : Descent) (new : List ℕ) (d : Descent) : Type 0 where
+  pub descended : Descended m ns d
+  pub lines : d.lines ≡ above.lines + length new
+  pub floor : d.floor ≡ (line_at new 0).floor

@@ -1,19 +1,30 @@
--- What private functions count and sum over the lines at a column's places, and laws say.
+-- What private functions count and sum over lines, and laws say.
 -- Assumes nothing.
-use Rattle.std.specs.Prelude.{◌≡◌, cond, List, [], ◌∷◌, ℕ, ◌*◌, ◌-◌, ◌≤◌, ◌<◌, ltb}
-use Rattle.lists.specs.Lists.{All, total}
+use Rattle.std.specs.Prelude.{◌≡◌, true, false, cond, Option, MatchOption, List, [], ◌∷◌, map, ℕ, ◌≤◌, ◌<◌, length, sum_by}
+use denote.Ref.{Bor}
+use Rattle.column.specs.Line.{most_lines, unpacked}
+use Rattle.std.specs.List.{All as Each}
+use Rattle.lists.specs.Lists.{All}
 use Rattle.column.specs.declared.Line.{Line}
-use Rattle.column.specs.inner.Sound.{lines_before, lines_between}
+use Rattle.column.specs.inner.Sound.{InLimits}
+use Rattle.figure.specs.declared.rates.Shares.{Shares}
 use Rattle.figure.specs.Carried.{is_formula_line, carried, has_floor}
+use Rattle.figure.specs.inner.Rates.{figure_by}
 
 -- the area that a line adds to the formula lines' area
 unfoldable pub formula_area : Line → ℕ
 formula_area l = cond (is_formula_line l) l.area.0 0
 
--- the sum of a number of each line from a place to before another, each at most so much
-pub record SumOf (number : Line → ℕ) (each : ℕ) (places : List ℕ) (first end sum : ℕ) : Type 0 where
-  pub is : sum ≡ total number (lines_between places first end)
-  pub most : sum ≤ each * (end - first)
+-- numbers that hold lines, at most `most_lines`, each within its limits, in whatever order
+abbrev pub Lined : List ℕ → Type 0
+Lined ns = (length ns ≤ most_lines) × Each (λ n. InLimits (unpacked n)) ns
+
+-- the formula lines' area, and R × area by the shares at a floor, summed over lines
+abbrev pub areas : List ℕ → ℕ
+areas ns = sum_by (λ n. formula_area (unpacked n)) ns
+
+abbrev pub figures : Shares → List ℕ → ℕ
+figures s ns = sum_by (λ n. figure_by s (unpacked n)) ns
 
 -- a line at a floor, one at it or above it, and one below it
 abbrev pub At : ℕ → Line → Type 0
@@ -33,8 +44,13 @@ pub data Ordered : List Line → Type 0 where
   empty : Ordered []
   first : {l : Line} {ls : List Line} → All (NotAbove l.floor) ls → Ordered ls → Ordered (l ∷ ls)
 
--- how many lines are carried at a floor that a line has, and 0 at any other; they stand first
-pub record FrontOf (f : ℕ) (places : List ℕ) (count end : ℕ) : Type 0 where
-  pub few : end ≤ count
-  pub has : has_floor f (lines_before places count) ≡ ltb 0 end
-  pub carries : 0 < end → carried f (lines_before places count) ≡ lines_before places end
+-- the lines carried at a floor, which a line has; they stand first
+pub record Front (f : ℕ) (ns front : List ℕ) : Type 0 where
+  pub lined : Lined front
+  pub ordered : Ordered (map unpacked front)
+  pub has : has_floor f (map unpacked ns) ≡ true
+  pub carries : carried f (map unpacked ns) ≡ map unpacked front
+
+-- those, or none where no line has the floor
+abbrev pub FrontOf : ℕ → List ℕ → Option (Bor (List ℕ)) → Type 0
+FrontOf f ns r = MatchOption r (has_floor f (map unpacked ns) ≡ false) (λ front. Front f ns front.now)

@@ -1,11 +1,8 @@
--- `figure::any_order::floors_marked` meets its contract: before index i the loop has found the floors of the lines from i on. Assumes nothing.
-use Prim.Native.Nat.{◌-◌, ◌≤◌}
-use Rattle.column.specs.inner.Sound.{lines_between}
+-- `figure::any_order::floors_marked` meets its contract: the loop has found the floors of the lines so far. Assumes nothing.
+use Rattle.std.proofs.Common.{◌≤◌, map, take}
+use Rattle.column.specs.Line.{unpacked}
 use Rattle.figure.proofs.Marked.{Found}
 use Rattle.figure.proofs.any_order.floors_marked.Given as goal
 
-abbrev pub invariant-loop-i : goal.invariant-loop-i
-invariant-loop-i l = (l.i ≤ l.end) × (l.floors ≤ l.end - l.i) × Found (lines_between l.held l.i l.end) l.seen l.floors
-
-abbrev pub decreases-loop-i : goal.decreases-loop-i
-decreases-loop-i l = l.i
+abbrev pub invariant-loop-line : goal.invariant-loop-line
+invariant-loop-line l = (l.floors ≤ l.line-index) × Found (map unpacked (take l.line-index l.lines)) l.seen l.floors

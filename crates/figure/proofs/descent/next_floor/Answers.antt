@@ -1,31 +1,40 @@
 -- `figure::descent::next_floor` meets its contract. Assumes nothing.
-use mathlib.Core.Path.{ap}
-use native.Mathlib.Omega.{arith}
-use Rattle.column.specs.declared.Line.{Line}
+use Rattle.std.proofs.Common.{refl, sym, ap, arith, ℕ, ◌+◌, length}
+use Rattle.std.proofs.Math.Seq.{take-take}
 use Rattle.figure.specs.declared.rates.Shares.{Shares}
 use Rattle.figure.specs.inner.Rates.{shares_at}
-use Rattle.figure.proofs.HeldLines.{room, held_before, sum_join}
+use Rattle.figure.proofs.HeldLines.{lined_take, areas_most}
 use Rattle.figure.proofs.Shares.{shared_at}
-use Rattle.figure.proofs.Walk.{next_of}
+use Rattle.figure.proofs.Walk.{run_front, run_lined, run_areas, next_of}
 use Rattle.figure.proofs.descent.next_floor.Goals as goal
 
-pub area_between-requires : goal.area_between-requires
-area_between-requires c =
-    let e = c.floor_end-end.ensures in
-    (held_before c.requires.0.sound.held _ e.few, omega (arith, e.low))
+pub area_of-requires : goal.area_of-requires
+area_of-requires c = run_lined c.requires.0.few c.requires.1 c.requires.0.lined
 
-pub figure_before-requires : goal.figure_before-requires
-unfolding shares_at
-figure_before-requires c =
-    let e = c.floor_end-end.ensures in
+pub overflow_add-sum : goal.overflow_add-sum
+overflow_add-sum c =
+    let ns = c.args.lines.now in
+    omega (arith, c.area_of.ensures, run_areas c.requires.0 c.requires.1, areas_most _ (lined_take (c.args.above.lines + length c.args.new.now) ns c.requires.0.lined))
+
+pub shares_at-here-requires : goal.shares_at-here-requires
+shares_at-here-requires c =
+    let ns = c.args.lines.now in
+    (c.requires.0.code, omega (arith, c.area_of.ensures, run_areas c.requires.0 c.requires.1, areas_most _ (lined_take (c.args.above.lines + length c.args.new.now) ns c.requires.0.lined)))
+
+pub figure_with-requires-clause-lines : goal.figure_with-requires-clause-lines
+figure_with-requires-clause-lines c =
     let d = c.requires.0 in
+    let first = c.args.above.lines in
+    let end = first + length c.args.new.now in
+    let ns = c.args.lines.now in
+    (lined_take end ns d.lined, run_lined d.few c.requires.1 d.lined, rw (take-take first end ns (omega arith)) (sym (run_front d.few c.requires.1)))
+
+pub figure_with-requires-clause-shares : goal.figure_with-requires-clause-shares
+unfolding shares_at
+figure_with-requires-clause-shares c =
     let here = c.shares_at-here.ensures in
-    (held_before d.sound.held _ e.few, d.figure, omega (arith, e.low), shared_at _ _ d.shares, shared_at _ _ here, omega (arith, ap (λ (t : Shares). t.floors) here))
+    (shared_at _ _ c.requires.0.shares, shared_at _ _ here, omega (arith, ap (λ (s : Shares). s.floors) here))
 
 pub returns : goal.returns
 returns c =
-    let e = c.floor_end-end.ensures in
-    let d = c.requires.0 in
-    let at = ap (λ (l : Line). l.floor) c.line_at-floor.ensures in
-    let sum = sum_join (omega arith) (omega (arith, e.low)) (room (held_before d.sound.held _ e.few)) d.area c.area_between.ensures in
-    next_of _ d c.requires.1 at e sum c.shares_at-here.ensures c.figure_before.ensures
+    next_of c.requires.0 c.requires.1 _ refl c.floor_of.ensures (ap (λ (n : ℕ). c.args.above.area.0 + n) c.area_of.ensures) c.shares_at-here.ensures c.figure_with.ensures
