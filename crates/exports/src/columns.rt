@@ -4,8 +4,7 @@ ghost use Rattle.column.specs.Column.{column_from, Reached};
 ghost use Rattle.figure.specs.Asked.{asked};
 ghost use Rattle.exports.specs.Exported.{shown_of};
 
-use column::{Member, Places};
-use figure::Asked;
+use column::{ColumnRef, Member, Places};
 
 // What asking gives: the paper's number, 0 where none holds, and n, X and the figure, which are 0
 // where asking is refused.
@@ -29,16 +28,20 @@ pub extern "C" fn bungero_ask(
     requires { Reached (column_from member count held.now) }
     ensures { result ≡ shown_of (asked (column_from member count held.now) floor) }
 {
-    let asked = figure::ask_in(held, member, count, floor);
-    match asked {
-        Asked::Gives(working) => BungeroFigure {
+    let column = ColumnRef {
+        member,
+        count,
+        held,
+    };
+    match figure::ask_in(column, floor) {
+        Ok(working) => BungeroFigure {
             number: 0,
             floors: working.floors,
             influence: working.influence.0,
             figure: working.figure,
         },
-        Asked::Refused(number) => BungeroFigure {
-            number: number,
+        Err(refusal) => BungeroFigure {
+            number: refusal.number(),
             floors: 0,
             influence: 0,
             figure: 0,

@@ -1,11 +1,13 @@
 // The list call for programs in C and Rust.
 ghost use Rattle.std.specs.Prelude.{◌≡◌};
 ghost use Rattle.column.specs.Column.{member_of};
-ghost use Rattle.records.specs.Listed.{listed_of, said_listed};
+ghost use Rattle.refusal.specs.Said.{told};
+ghost use Rattle.records.specs.Listed.{listed_of};
 ghost use Rattle.exports.specs.Exported.{shown_listed};
 
 use column::Line;
-use records::Listed;
+use figure::Working;
+use refusal::Refused;
 
 // What the list call gives: the paper's number, 0 where none holds, and the place of the refused line,
 // 0 where it is none; and n, X and the figure, which are 0 where the list is refused.
@@ -20,20 +22,21 @@ pub struct BungeroListed {
 }
 
 // The numbers of what the list call gave.
-fn listed_out(listed: Listed) -> BungeroListed
-    ensures { result ≡ shown_listed (said_listed listed) }
+#[tactic(auto, unfolding(crate::specs::Exported::shown_listed, refusal::specs::Said::told))]
+fn listed_out(listed: Result<Working, Refused<u64>>) -> BungeroListed
+    ensures { result ≡ shown_listed (told listed) }
 {
     match listed {
-        Listed::Gives(working) => BungeroListed {
+        Ok(working) => BungeroListed {
             number: 0,
             place: 0,
             floors: working.floors,
             influence: working.influence.0,
             figure: working.figure,
         },
-        Listed::Refused { number, place } => BungeroListed {
-            number: number,
-            place: place,
+        Err(refused) => BungeroListed {
+            number: refused.refusal.number(),
+            place: refused.back,
             floors: 0,
             influence: 0,
             figure: 0,

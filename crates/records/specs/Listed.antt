@@ -10,8 +10,6 @@ use Rattle.column.specs.Accepted.{entry_number}
 use Rattle.column.specs.Column.{opened_of}
 use Rattle.figure.specs.Asked.{asked_of}
 use Rattle.error_bound.specs.Claim.{Bounded}
-use Rattle.records.specs.declared.Listed.{Listed}
-use Rattle.records.specs.declared.Listed.TheVariants.{Gives, Refused}
 
 -- 01, Member, line, floor: a refusal comes with a place
 unfoldable pub at_place : {A : Type 0} → ℕ → Said A → Told ℕ A
@@ -34,11 +32,6 @@ listed_of m lines f =
     cond (eqb (opened_of m).number 0)
     (listed_from m [] lines f)
     (refused (opened_of m).number 0)
-
--- 01, Where each language form belongs: the number and the values of each case of an answer
-unfoldable pub said_listed : Listed → Told ℕ Working
-said_listed (Gives w) = gives w
-said_listed (Refused n place) = refused n place
 
 -- 01, Reduced load and figure: E ≤ F < E + A holds of a figure F that the call gives, over the lines of the list that are
 -- carried at the floor

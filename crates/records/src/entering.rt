@@ -1,77 +1,24 @@
-// Entering a list of lines in place, one after another, up to and with the first refused one.
-ghost use Rattle.std.specs.Prelude.{◌≡◌, cond, eqb};
-ghost use Rattle.column.specs.inner.Sound.{no_places};
-ghost use Rattle.column.specs.Column.{member_of, column_from, opened_of, entered_of, Reached};
-ghost use Rattle.records.specs.inner.Entering.{Sits, outcome_of, entered_all};
+// Entering a list of lines, one after another, up to and with the first refused one.
+ghost use Rattle.std.specs.Prelude.{◌≡◌};
+ghost use Rattle.column.specs.Column.{Reached};
+ghost use Rattle.records.specs.inner.Entering.{entering_told, entered_from};
 
-use column::{LINES, Line, Member, Places};
+use column::{Column, Line};
+use refusal::Refused;
 
-// A member, the number of the first refusal so far, 0 where there is none, and how many lines are then held.
-#[derive(Clone, Copy)]
-pub struct Entered {
-    pub member: Member,
-    pub number: u64,
-    pub count: u16,
-}
-
-// The places of a column without lines.
-pub fn empty() -> Places
-    ensures { result ≡ no_places }
+// Enters the lines in order; refused, with the place of the line, where a condition for entering it holds.
+#[tactic(auto, unfolding(crate::specs::inner::Entering::entering_told, refusal::specs::Said::number_told), using(crate::proofs::Entering::enters, crate::proofs::Entering::stops, crate::proofs::Entering::ends))]
+pub fn enter_all(column: &mut Column, lines: &[Line]) -> Result<(), Refused<u64>>
+    requires { Reached column.old }
+    ensures { (entering_told result column.new ≡ entered_from 1 column.old lines.now) × Reached column.new }
 {
-    [0; LINES]
-}
-
-// Before the first line: the member that was opened, and that of code 0 where opening was refused.
-#[tactic(auto, unfolding(column::specs::Column::opened_outcome, column::specs::Column::column_of, crate::specs::inner::Entering::outcome_of))]
-pub fn begun(code: u64) -> Entered
-    ensures { outcome_of result no_places ≡ opened_of (member_of code) }
-{
-    let opened = column::opening(code);
-    let member = opened.member;
-    Entered {
-        member: member,
-        number: opened.number,
-        count: 0,
+    for (before, line) in lines.iter().enumerate() {
+        if let Err(refusal) = column.enter(*line) {
+            return Err(Refused {
+                refusal,
+                back: before as u64 + 1,
+            });
+        }
     }
-}
-
-// One line more, after lines of which none is refused.
-#[tactic(auto, unfolding(column::specs::Column::joined_outcome, crate::specs::inner::Entering::outcome_of))]
-fn with_line(held: &mut Places, entered: Entered, line: Line) -> Entered
-    requires { Reached (column_from entered.member entered.count held.old) }
-    ensures { (outcome_of result held.new ≡ entered_of (column_from entered.member entered.count held.old) line) × Reached (column_from result.member result.count held.new) }
-{
-    let member = entered.member;
-    let joined = column::enter_in(held, member, entered.count, line);
-    Entered {
-        member: member,
-        number: joined.number,
-        count: joined.count,
-    }
-}
-
-// How many lines are to be entered: all while nothing is refused, and none after a refusal.
-fn end_of(entered: Entered, all: usize) -> usize
-    ensures { result ≡ cond (eqb entered.number 0) all 0 }
-{
-    if entered.number == 0 {
-        return all;
-    }
-    0
-}
-
-// The lines in order, up to and with the first refused one.
-pub fn enter_all(held: &mut Places, first: Entered, lines: &[Line]) -> Entered
-    requires { Sits first held.old }
-    ensures { (outcome_of result held.new ≡ entered_all (outcome_of first held.old) lines.now) × Sits result held.new }
-{
-    let mut entered = first;
-    let mut end = end_of(entered, lines.len());
-    let mut i: usize = 0;
-    while i < end {
-        entered = with_line(held, entered, lines[i]);
-        end = end_of(entered, lines.len());
-        i += 1;
-    }
-    entered
+    Ok(())
 }

@@ -8,39 +8,23 @@ ghost use Rattle.column.specs.Line.{lowest_floor};
 ghost use Rattle.sheet.specs.Keeps.{EffectsWithin, Keeps};
 ghost use Rattle.report.specs.Report.{effects_with, governing_lines, takedown_of};
 ghost use Rattle.column.specs.Column.{column_from};
-ghost use Rattle.report.specs.inner.Table.{sheet_from, line_of, working_after, table_lines};
+ghost use Rattle.report.specs.inner.Table.{sheet_from, line_of, table_lines};
 
 use crate::lines;
-use column::{Member, Places};
+use column::{ColumnRef, Member, Places};
 use effects::Newtons;
-use figure::{NUMBERS, Table, Working};
-use reduction::InfluenceArea;
+use figure::{FLOORS, Table, Working};
 use sheet_lines::EFFECTS;
 
-// How many floors there can be.
-const FLOORS: usize = column::LOWEST_FLOOR as usize;
-
-// The working of a floor by its numbers in a table.
-fn working_after(table: &Table, floors: usize) -> Working
-    requires { floors + 1 ≤ lowest_floor }
-    ensures { result ≡ working_after table.now floors }
-{
-    let at = 3 * floors;
-    Working {
-        floors: table[at],
-        influence: InfluenceArea(table[at + 1]),
-        figure: table[at + 2],
-    }
-}
-
 // Puts the line of a floor, and nothing where no line has that floor.
-fn put_floor(to: &mut [u8], at: usize, floor: u64, working: Working) -> usize
+#[tactic(auto, unfolding(crate::specs::inner::Table::line_of, text::specs::Put::puts))]
+fn put_floor(to: &mut [u8], at: usize, floor: u64, working: Option<Working>) -> usize
     ensures { out to.new result ≡ puts to.old at (line_of floor working) }
 {
-    if working.floors == 0 {
-        return at;
+    match working {
+        Some(working) => lines::put_floor_line(to, at, floor, working),
+        None => at,
     }
-    lines::put_floor_line(to, at, floor, working)
 }
 
 // Puts the lines of all floors, top first.
@@ -48,11 +32,10 @@ fn put_floors(to: &mut [u8], table: &Table) -> usize
     ensures { out to.new result ≡ puts to.old 0 (table_lines table.now lowest_floor) }
 {
     let mut at = 0;
-    let mut floors: usize = 0;
-    while floors < FLOORS {
-        let working = working_after(table, floors);
-        floors += 1;
-        at = put_floor(to, at, floors as u64, working);
+    let mut floor = 0;
+    for working in table {
+        floor += 1;
+        at = put_floor(to, at, floor, *working);
     }
     at
 }
@@ -107,8 +90,13 @@ pub fn put_takedown(
     requires { Keeps (sheet_from (column_from member count held.now) effects) }
     ensures { out to.new result ≡ puts to.old 0 (takedown_of (sheet_from (column_from member count held.now) effects)) }
 {
-    let mut table = [0u64; NUMBERS];
-    let lowest = figure::work_out(held, member, count, &mut table);
+    let column = ColumnRef {
+        member,
+        count,
+        held,
+    };
+    let mut table = [None; FLOORS];
+    let lowest = figure::work_out(column, &mut table);
     let live = live_effect(lowest);
     let next = put_floors(to, &table);
     put_governing(to, next, effects, live)

@@ -1,14 +1,15 @@
--- `exports::columns::bungero_ask` meets its contract. Assumes nothing.
+-- `exports::columns::bungero_ask` meets its contract: a reached column may be lent. Assumes nothing.
 use mathlib.Core.Path.{sym, ◌∙◌, ap}
-use Rattle.figure.specs.declared.Asked.{Asked}
-use Rattle.figure.specs.Asked.{said_working}
+use Rattle.std.specs.Prelude.{Result}
+use Rattle.refusal.specs.declared.Refusal.{Refusal}
+use Rattle.refusal.specs.Said.{said}
+use Rattle.column.specs.declared.Column.{Column}
+use Rattle.column.proofs.Seen.{reached_opens, reached_again}
+use Rattle.figure.specs.declared.Working.{Working}
 use Rattle.exports.specs.Exported.{shown_of}
 use Rattle.exports.proofs.columns.bungero_ask.Goals as goal
 
-pub returns-in-Gives : goal.returns-in-Gives
-unfolding shown_of said_working
-returns-in-Gives c = ap (λ (a : Asked). shown_of (said_working a)) (sym c.in-Gives.is) ∙ ap shown_of c.ask_in-asked.ensures
-
-pub returns-in-Refused : goal.returns-in-Refused
-unfolding shown_of said_working
-returns-in-Refused c = ap (λ (a : Asked). shown_of (said_working a)) (sym c.in-Refused.is) ∙ ap shown_of c.ask_in-asked.ensures
+pub invariant_of-column : goal.invariant_of-column
+invariant_of-column c =
+    let e = reached_again c.requires in
+    record { opens = reached_opens c.requires; counted = ap (λ (d : Column). d.count) e; entered = ap (λ (d : Column). d.held) e }

@@ -4,7 +4,9 @@ use Prim.Native.Nat.{ℕ, ◌+◌, ◌/◌}
 use Rattle.text.proofs.Puts.{puts_then}
 use Rattle.figure.proofs.Lowest.{lowest_most}
 use Rattle.sheet.specs.declared.Sheet.{Sheet}
+use Rattle.column.specs.declared.Column.{Column}
 use Rattle.column.specs.Column.{column_from}
+use Rattle.column.proofs.Seen.{reached_opens, reached_again}
 use Rattle.report.specs.Report.{live_of, effects_of, takedown_of}
 use Rattle.report.specs.inner.Table.{sheet_from}
 use Rattle.report.proofs.Table.{table_lines_lem}
@@ -22,6 +24,12 @@ sheet s = sheet_from (column_from s.args.member s.args.count s.args.held.now) s.
 live_known : (c : After-live_effect-live) → c.live_effect-live.result ≡ live_of (sheet (start (goal.at.After-live_effect-live c).After-work_out-lowest)).column
 unfolding live_of
 live_known c = c.live_effect-live.ensures.0 ∙ ap (λ (n : ℕ). (n + 99) / 100) c.work_out-lowest.ensures.value
+
+pub invariant_of-column : goal.invariant_of-column
+invariant_of-column c =
+    let reached = c.requires.column in
+    let e = reached_again reached in
+    record { opens = reached_opens reached; counted = ap (λ (d : Column). d.count) e; entered = ap (λ (d : Column). d.held) e }
 
 pub live_effect-live-requires : goal.live_effect-live-requires
 live_effect-live-requires c = rw c.work_out-lowest.ensures.value (lowest_most (start (goal.at.live_effect-live-requires c).After-work_out-lowest).requires.column)
