@@ -3,53 +3,67 @@
 use mathlib.Core.Path.{◌≡◌, refl, sym, ◌∙◌, ap}
 use mathlib.Core.Bool.{cond}
 use mathlib.Core.List.{List, [], ◌∷◌}
-use Prim.Native.Nat.{ℕ, ◌+◌, ◌≤◌}
+use Prim.Native.Nat.{ℕ, ◌+◌, ◌-◌, ◌≤◌, ◌<◌}
 use native.Mathlib.Nat.{add-zero, zero-add}
 use native.Mathlib.Omega.{arith}
 use lib.Dec.{eqb}
-use Rattle.refusal.proofs.Said.{by_number, not_zero}
+use lib.ListN.{length, take, drop}
+use Rattle.std.specs.Prelude.{Option, Some, None, unwrap_or}
+use Rattle.refusal.specs.declared.Refusal.{Refusal}
+use Rattle.refusal.specs.declared.Refused.{Refused}
+use Rattle.refusal.specs.Refusal.{number_of}
+use Rattle.refusal.proofs.Said.{by_number, not_zero, number_positive}
 use Rattle.column.specs.declared.Line.{Line}
 use Rattle.column.specs.declared.Member.{Member}
 use Rattle.column.specs.declared.Column.{Column}
 use Rattle.column.specs.declared.Outcome.{Outcome}
 use Rattle.column.specs.Accepted.{entry_number, joined}
-use Rattle.column.specs.Column.{column_of, opened_of}
+use Rattle.column.specs.Line.{entries_of}
+use Rattle.column.specs.Column.{column_of, opened_of, entered_of, after}
+use Rattle.column.proofs.Entries.{entry_at, entries_first, entries_few}
 use Rattle.column.specs.theorems.InTurn.{Holdable}
 use Rattle.column.proofs.Reach.{holdable_none, entered_column, joined_holdable, opened_column}
-use Rattle.error_bound.specs.declared.Refusals.{Refusals}
-use Rattle.error_bound.specs.Entries.{numbers_from, refused_count, first_number, first_place, refusals_of, refusals_after}
+use Rattle.error_bound.specs.Entries.{RefusedEntries, first_told, numbers_from, refused_count, first_number, first_place, refusals_of, refusals_after}
 use Rattle.error_bound.specs.inner.Counting.{numbers_on, noted_of, noted_all, no_refusals}
 
 -- one entry more: accepted, refused as the first, and refused after others
-module _ (p : Refusals) (n place : ℕ) where
+module _ (p : RefusedEntries) (n place : ℕ) where
   pub noted_none : n ≡ 0 → p ≡ noted_of p n place
   unfolding noted_of
   noted_none e = rw e
 
-  pub noted_first : 1 ≤ n → p.count ≡ 0 → record { count = 1; number = n; place = place } ≡ noted_of p n place
+  pub noted_first : 1 ≤ n → p.number ≡ 0 → record { count = p.count + 1; number = n; place = place } ≡ noted_of p n place
   unfolding noted_of
   noted_first h e = rw (not_zero h, e)
 
-  pub noted_more : 1 ≤ n → 1 ≤ p.count → record { count = p.count + 1; number = p.number; place = p.place } ≡ noted_of p n place
+  pub noted_more : 1 ≤ n → 1 ≤ p.number → record { count = p.count + 1; number = p.number; place = p.place } ≡ noted_of p n place
   unfolding noted_of
   noted_more h k = rw (not_zero h, not_zero k)
 
+-- as it is noted
+pub noted : (n : ℕ) (first : Option (Refused ℕ)) (r : Refusal) (place : ℕ)
+    → first_told (n + 1) (Some (unwrap_or first (record { refusal = r; back = place }))) ≡ noted_of (first_told n first) (number_of r) place
+unfolding first_told
+noted n None r place = noted_first (record { count = n; number = 0; place = 0 }) (number_of r) place (number_positive r) refl
+noted n (Some q) r place =
+    noted_more (record { count = n; number = number_of q.refusal; place = q.back }) (number_of r) place (number_positive r) (number_positive q.refusal)
+
 -- the three numbers that are told
-abbrev told : ℕ → ℕ → ℕ → Refusals
+abbrev told : ℕ → ℕ → ℕ → RefusedEntries
 told count number place = record { count = count; number = number; place = place }
 
 -- after a refusal, of which the number and the place stay, the later ones are counted
-kept : (p : Refusals) (place : ℕ) (ns : List ℕ) → 1 ≤ p.count → noted_all p place ns ≡ told (p.count + refused_count ns) p.number p.place
+kept : (p : RefusedEntries) (place : ℕ) (ns : List ℕ) → 1 ≤ p.number → noted_all p place ns ≡ told (p.count + refused_count ns) p.number p.place
 unfolding noted_all refused_count
 kept p place [] h = rw (add-zero p.count)
 kept p place (n ∷ ns) h =
     by_number n
     (λ e. let k : p.count + refused_count ns ≡ p.count + (cond (eqb n 0) 0 1 + refused_count ns) = rw e (omega arith) in
-    ap (λ (q : Refusals). noted_all q (place + 1) ns) (sym (noted_none p n place e))
+    ap (λ (q : RefusedEntries). noted_all q (place + 1) ns) (sym (noted_none p n place e))
     ∙ (kept p (place + 1) ns h ∙ ap (λ (j : ℕ). told j p.number p.place) k))
     (λ r. let k : p.count + 1 + refused_count ns ≡ p.count + (cond (eqb n 0) 0 1 + refused_count ns) = rw (not_zero r) (omega arith) in
-    ap (λ (q : Refusals). noted_all q (place + 1) ns) (sym (noted_more p n place r h))
-    ∙ (kept (told (p.count + 1) p.number p.place) (place + 1) ns (omega arith) ∙ ap (λ (j : ℕ). told j p.number p.place) k))
+    ap (λ (q : RefusedEntries). noted_all q (place + 1) ns) (sym (noted_more p n place r h))
+    ∙ (kept (told (p.count + 1) p.number p.place) (place + 1) ns h ∙ ap (λ (j : ℕ). told j p.number p.place) k))
 
 -- before any refusal, what the definition says of the whole list
 found : (place : ℕ) (ns : List ℕ) → noted_all no_refusals place ns ≡ told (refused_count ns) (first_number ns) (first_place place ns)
@@ -57,9 +71,9 @@ unfolding noted_all refused_count first_number first_place
 found place [] = refl
 found place (n ∷ ns) =
     by_number n
-    (λ e. ap (λ (q : Refusals). noted_all q (place + 1) ns) (sym (noted_none no_refusals n place e)) ∙ (found (place + 1) ns ∙ rw (e, zero-add (refused_count ns))))
-    (λ r. ap (λ (q : Refusals). noted_all q (place + 1) ns) (sym (noted_first no_refusals n place r refl))
-    ∙ (kept (told 1 n place) (place + 1) ns (omega arith) ∙ rw (not_zero r)))
+    (λ e. ap (λ (q : RefusedEntries). noted_all q (place + 1) ns) (sym (noted_none no_refusals n place e)) ∙ (found (place + 1) ns ∙ rw (e, zero-add (refused_count ns))))
+    (λ r. ap (λ (q : RefusedEntries). noted_all q (place + 1) ns) (sym (noted_first no_refusals n place r refl))
+    ∙ (kept (told 1 n place) (place + 1) ns r ∙ rw (not_zero r)))
 
 pub noted_all_lem : (ns : List ℕ) → noted_all no_refusals 1 ns ≡ refusals_of ns
 unfolding refusals_of
@@ -84,3 +98,20 @@ module _ (m : Member) where
   pub refusals_refused : (es : List Line) (n : ℕ) → 1 ≤ n → n ≡ (opened_of m).number → no_refusals ≡ refusals_after m es
   unfolding refusals_after refusals_of refused_count first_number first_place
   refusals_refused es n h e = rw (← e, not_zero h)
+
+-- one entry more of a list of numbers, which is counted and noted
+pub next_entry : (c d : Column) (ns : List ℕ) (n place : ℕ) (p : RefusedEntries) {q : RefusedEntries} → 4 ≤ length ns → record { number = n; column = d } ≡ entered_of c (entry_at ns 0) → q ≡ noted_of p n place
+    → let es = entries_of (take (length ns - 4) (drop 4 ns)) in
+    (after d es ≡ after c (entries_of ns)) × (noted_all q (place + 1) (numbers_on d es) ≡ noted_all p place (numbers_on c (entries_of ns)))
+unfolding after numbers_on noted_all
+next_entry c d ns n place p h e k =
+    let es = entries_of (take (length ns - 4) (drop 4 ns)) in
+    rw (entries_first ns h, k) (
+      ap (λ (o : Outcome). after o.column es) e,
+      ap (λ (o : Outcome). noted_all (noted_of p o.number place) (place + 1) (numbers_on o.column es)) e,
+    )
+
+-- numbers that make no entry
+pub no_entry : (c : Column) (ns : List ℕ) (place : ℕ) (p : RefusedEntries) → length ns < 4 → (c ≡ after c (entries_of ns)) × (p ≡ noted_all p place (numbers_on c (entries_of ns)))
+unfolding after numbers_on noted_all
+no_entry c ns place p h = rw (entries_few ns h) (refl, refl)

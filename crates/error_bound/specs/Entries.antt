@@ -1,6 +1,8 @@
 -- Paper 01, "Reduced load and figure": a whole list of entries at once, what asking gives after it and which were refused.
 -- Assumes nothing.
-use Rattle.std.specs.Prelude.{cond, List, [], ◌∷◌, ℕ, ◌+◌, eqb}
+use Rattle.std.specs.Prelude.{cond, List, [], ◌∷◌, ℕ, ◌+◌, eqb, Option, Some, None}
+use Rattle.refusal.specs.declared.Refused.{Refused}
+use Rattle.refusal.specs.Refusal.{number_of}
 use Rattle.refusal.specs.Said.{Said, refused, nothing}
 use Rattle.column.specs.declared.Line.{Line}
 use Rattle.column.specs.declared.Member.{Member}
@@ -39,11 +41,25 @@ unfoldable pub first_place : ℕ → List ℕ → ℕ
 first_place place [] = 0
 first_place place (n ∷ ns) = cond (eqb n 0) (first_place (place + 1) ns) place
 
--- No part of the paper: what is told of the refused entries; "places count from 1" (01, Member, line, floor)
-unfoldable pub refusals_of : List ℕ → Refusals
+-- No part of the paper: what is told of the refused entries: how many, and the number and the place of the first; zeros where
+-- there is none. "Places count from 1" (01, Member, line, floor)
+pub record RefusedEntries : Type 0 where
+  pub count : ℕ
+  pub number : ℕ
+  pub place : ℕ
+
+unfoldable pub refusals_of : List ℕ → RefusedEntries
 refusals_of numbers = record { count = refused_count numbers; number = first_number numbers; place = first_place 1 numbers }
 
 -- No part of the paper: what is told of the refused entries of a whole list; of none where opening is refused, since
 -- then no entry is looked at
-unfoldable pub refusals_after : Member → List Line → Refusals
+unfoldable pub refusals_after : Member → List Line → RefusedEntries
 refusals_after m entries = refusals_of (cond (eqb (opened_of m).number 0) (numbers_from m [] entries) [])
+
+-- 01, Where each language form belongs: the same, read off the count and the first one
+unfoldable pub first_told : ℕ → Option (Refused ℕ) → RefusedEntries
+first_told n None = record { count = n; number = 0; place = 0 }
+first_told n (Some r) = record { count = n; number = number_of r.refusal; place = r.back }
+
+abbrev pub refusals_told : Refusals → RefusedEntries
+refusals_told r = first_told r.count r.first

@@ -1,116 +1,101 @@
 // The figure after a whole list of entries, with demand 3 of the paper.
 #![tactic(auto)]
 
-ghost use Rattle.std.specs.Prelude.{◌≡◌, ◌≤◌, ◌<◌};
+ghost use Rattle.std.specs.Prelude.{◌≡◌, ◌≤◌, ◌<◌, ◌/◌, length};
+ghost use Rattle.refusal.specs.Refusal.{number_of};
+ghost use Rattle.refusal.specs.Said.{said};
 ghost use Rattle.column.specs.Accepted.{accepted};
 ghost use Rattle.column.specs.Column.{member_of, after, Reached};
-ghost use Rattle.figure.specs.Asked.{said_working};
 ghost use Rattle.column.specs.Line.{entries_of};
-ghost use Rattle.error_bound.specs.Entries.{asked_after, refusals_of, refusals_after};
+ghost use Rattle.error_bound.specs.Entries.{asked_after, refusals_of, refusals_after, refusals_told};
 ghost use Rattle.error_bound.specs.inner.Counting.{numbers_on, noted_of};
 ghost use Rattle.error_bound.specs.Claim.{Claim};
 
-use column::Column;
-use figure::Asked;
+use column::{Column, Line};
+use figure::Working;
+use member::TributaryArea;
+use refusal::{Refusal, Refused};
 
-// The entries of a list that were refused: how many, and the number and the place, counted from 1, of the
-// first; zeros where there is none.
+// The entries of a list that were refused: how many, and why the first was, with its place, counted from 1.
 #[derive(Clone, Copy)]
 pub struct Refusals {
     pub count: u64,
-    pub number: u64,
-    pub place: u64,
+    pub first: Option<Refused<u64>>,
 }
 
 // What a whole list of entries gives: what asking gives after it, and which entries were refused.
 #[derive(Clone, Copy)]
 pub struct AfterList {
-    pub asked: Asked,
+    pub asked: Result<Working, Refusal>,
     pub refusals: Refusals,
 }
 
-// The column after some entries, and those that were refused.
-#[derive(Clone, Copy)]
-struct Entered {
-    column: Column,
-    refusals: Refusals,
-}
+// No entry that was refused.
+const NO_REFUSALS: Refusals = Refusals {
+    count: 0,
+    first: None,
+};
 
-// What is told of the refused entries after one more, at this place and with this number.
-fn noted(refusals: Refusals, number: u64, place: u64) -> Refusals
-    requires { refusals.count < place }
-    ensures { (result ≡ noted_of refusals number place) × (result.count ≤ place) }
-{
-    if number == 0 {
-        return refusals;
-    }
-    if refusals.count == 0 {
-        return Refusals {
-            count: 1,
-            number: number,
-            place: place,
-        };
-    }
-    Refusals {
-        count: refusals.count + 1,
-        number: refusals.number,
-        place: refusals.place,
+impl Refusals {
+    // Notes one more refused entry, at this place.
+    #[tactic(auto, using(crate::proofs::Counting::noted))]
+    fn note(&mut self, refusal: Refusal, place: u64)
+        requires { self.old.count < place }
+        ensures { (refusals_told self.new ≡ noted_of (refusals_told self.old) (number_of refusal) place) × (self.new.count ≤ place) }
+    {
+        let first = self.first.unwrap_or(Refused {
+            refusal,
+            back: place,
+        });
+        self.count += 1;
+        self.first = Some(first);
     }
 }
 
-// The column after every entry of a list of numbers, four an entry, and the refused ones, which are passed over:
-// each entry is pasted by itself, so that a refused one does not end the list.
-fn entered_all(column: Column, entries: &[u64]) -> Entered
-    requires { Reached column }
-    ensures { (result.column ≡ after column (entries_of entries.now)) × Reached result.column × (result.refusals ≡ refusals_of (numbers_on column (entries_of entries.now))) }
+// Enters every entry of a list of numbers, four an entry, going on past refused ones.
+fn enter_all(column: &mut Column, entries: &[u64]) -> Refusals
+    requires { Reached column.old }
+    ensures column { (column.new ≡ after column.old (entries_of entries.now)) × Reached column.new }
+    ensures refusals { refusals_told result ≡ refusals_of (numbers_on column.old (entries_of entries.now)) }
 {
-    let mut next = column;
-    let mut refusals = Refusals {
-        count: 0,
-        number: 0,
-        place: 0,
-    };
-    let mut at = 0;
+    let mut refusals = NO_REFUSALS;
     let mut place = 0;
-    while 4 <= entries.len() - at {
-        let member = next.member;
-        let count = next.count;
-        let pasted = column::paste_in(&mut next.held, member, count, &entries[at..at + 4]);
-        next.count = pasted.count;
-        at += 4;
+    let mut rest = entries;
+    while let [floor, class, load, area, after @ ..] = rest {
         place += 1;
-        refusals = noted(refusals, pasted.number, place);
+        let line = Line {
+            floor: *floor,
+            class: *class,
+            load: *load,
+            area: TributaryArea(*area),
+        };
+        if let Err(refusal) = column.enter(line) {
+            refusals.note(refusal, place);
+        }
+        rest = after;
     }
-    Entered {
-        column: next,
-        refusals: refusals,
-    }
+    refusals
 }
 
 // Opens a member, enters every entry of a list of numbers, four an entry, going on past refused ones,
 // and asks at a floor; tells too which were refused. One to three numbers left over at the end of the list
 // are no entry.
 pub fn figure_after(code: u64, entries: &[u64], floor: u64) -> AfterList
-    ensures asked_value { (said_working result.asked ≡ asked_after (member_of code) (entries_of entries.now) floor) × Claim (member_of code) (accepted (member_of code) (entries_of entries.now)) floor (said_working result.asked) }
-    ensures refusals_value { result.refusals ≡ refusals_after (member_of code) (entries_of entries.now) }
+    ensures asked_value { (said result.asked ≡ asked_after (member_of code) (entries_of entries.now) floor) × Claim (member_of code) (accepted (member_of code) (entries_of entries.now)) floor (said result.asked) }
+    ensures refusals_value { refusals_told result.refusals ≡ refusals_after (member_of code) (entries_of entries.now) }
 {
-    let opened = column::open(code);
-    if opened.number != 0 {
-        return AfterList {
-            asked: Asked::Refused(opened.number),
-            refusals: Refusals {
-                count: 0,
-                number: 0,
-                place: 0,
-            },
-        };
-    }
-    let first = opened.column;
-    let entered = entered_all(first, entries);
-    let column = entered.column;
-    let refusals = entered.refusals;
-    AfterList {
-        asked: figure::ask(column, floor),
-        refusals: refusals,
+    match Column::open(code) {
+        Ok(opened) => {
+            let mut column = opened;
+            let refusals = enter_all(&mut column, entries);
+            AfterList {
+                asked: figure::ask_in(column.lend(), floor),
+                refusals,
+            }
+        }
+        Err(refusal) => AfterList {
+            asked: Err(refusal),
+            refusals: NO_REFUSALS,
+        },
     }
 }
