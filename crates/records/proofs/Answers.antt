@@ -56,7 +56,7 @@ module _ (m : Member) where
 
 module _ (m : Member) (ls : List Line) (l : Line) where
   -- entering a line on the column of some lines checks it after these lines
-  column_number : Holdable ls → (entered_of (column_of m ls) l).number ≡ entry_number m ls l
+  pub column_number : Holdable ls → (entered_of (column_of m ls) l).number ≡ entry_number m ls l
   unfolding entered_of column_of
   column_number k = rw (column_lines m ls k.lines)
 

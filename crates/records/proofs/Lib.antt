@@ -1,4 +1,4 @@
 -- Laws of the list call, for the proofs here and in the crates above.
 pub mod Answers
 pub mod Examples
-pub mod Entering
+pub mod InTurn

@@ -7,17 +7,18 @@ use column::{Column, Line};
 use refusal::Refused;
 
 // Enters the lines in order; refused, with the place of the line, where a condition for entering it holds.
-#[tactic(auto, unfolding(crate::specs::inner::Entering::entering_told, refusal::specs::Said::number_told), using(crate::proofs::Entering::enters, crate::proofs::Entering::stops, crate::proofs::Entering::ends))]
+#[tactic(auto, unfolding(crate::specs::inner::Entering::entering_told), using(crate::proofs::InTurn::entered_end))]
 pub fn enter_all(column: &mut Column, lines: &[Line]) -> Result<(), Refused<u64>>
     requires { Reached column.old }
     ensures { (entering_told result column.new ≡ entered_from 1 column.old lines.now) × Reached column.new }
 {
     for (before, line) in lines.iter().enumerate() {
         if let Err(refusal) = column.enter(*line) {
-            return Err(Refused {
+            let refused = Refused {
                 refusal,
                 back: before as u64 + 1,
-            });
+            };
+            return Err(refused);
         }
     }
     Ok(())

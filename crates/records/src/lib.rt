@@ -2,9 +2,9 @@
 #![tactic(auto)]
 
 ghost use Rattle.std.specs.Prelude.{◌≡◌};
-ghost use Rattle.refusal.specs.Said.{told};
+ghost use Rattle.refusal.specs.Said.{said, told};
 ghost use Rattle.column.specs.Column.{member_of};
-ghost use Rattle.records.specs.Listed.{listed_of, Bounds};
+ghost use Rattle.records.specs.Listed.{at_place, listed_of, Bounds};
 
 use column::{Column, Line};
 use figure::Working;
@@ -12,11 +12,12 @@ use refusal::{Refusal, Refused};
 
 mod entering;
 
-// A refusal of the code or the floor, whose place is 0. Lines have the places 1, 2 and so on.
-fn without_place(refusal: Refusal) -> Refused<u64>
-    ensures { result ≡ record { refusal = refusal; back = 0 } }
+// What opening or asking gave. Lines have the places 1, 2 and so on; the place is 0 where the code or the floor is refused.
+#[tactic(auto, unfolding(crate::specs::Listed::at_place, refusal::specs::Said::said, refusal::specs::Said::told))]
+fn without_place<T>(answer: Result<T, Refusal>) -> Result<T, Refused<u64>>
+    ensures { told result ≡ at_place 0 (said answer) }
 {
-    Refused { refusal, back: 0 }
+    answer.map_err(|refusal| Refused { refusal, back: 0 })
 }
 
 // n, X and the figure at a floor of a member with these lines, none of them refused; else the first
@@ -24,7 +25,7 @@ fn without_place(refusal: Refusal) -> Refused<u64>
 pub fn figure_of(code: u64, lines: &[Line], floor: u64) -> Result<Working, Refused<u64>>
     ensures { (told result ≡ listed_of (member_of code) lines.now floor) × Bounds (member_of code) lines.now floor (told result) }
 {
-    let mut column = Column::open(code).map_err(without_place)?;
+    let mut column = without_place(Column::open(code))?;
     entering::enter_all(&mut column, lines)?;
-    figure::ask_in(column.lend(), floor).map_err(without_place)
+    without_place(figure::ask_in(column.lend(), floor))
 }

@@ -1,5 +1,7 @@
 -- `figure::descent::figure_with` meets its contract: where the shares are alike, the figure above is the sum over its lines here too. Assumes nothing.
-use Rattle.std.proofs.Common.{◌≡◌, sym, ◌∙◌, ap, arith, ℕ, ◌+◌, ◌≤◌, ◌<◌, ◌++◌, List, sum_by}
+use Rattle.std.proofs.Common.{◌≡◌, sym, ◌∙◌, ap, arith, true, eqb, ℕ, ◌+◌, ◌≤◌, ◌++◌, List, sum_by}
+use Rattle.std.specs.Prelude.{IsSome}
+use Rattle.std.specs.Option.{option_eq}
 use Rattle.std.proofs.lemmas.List.Sums.{sum_by-append}
 use Rattle.column.specs.declared.Line.{Line}
 use Rattle.column.specs.Line.{unpacked}
