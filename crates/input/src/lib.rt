@@ -14,7 +14,8 @@ pub enum Ending {
     Ended,
 }
 
-// What was read: so many bytes at the start of the buffer, and why no more, or the error of a read.
+// What was read: so many bytes at the start of the buffer, and why no more, or the error of a read. The
+// buffer stays the caller's, as with `read` of std.
 #[derive(Drop)]
 pub struct Input {
     pub count: usize,

@@ -29,7 +29,8 @@ fn number_ended(count: usize, value: u64, next: usize) -> Option<Read>
     Some(Read { value, next })
 }
 
-// The number at the start of a text.
+// The number at the start of a text. `parse` of the library takes needless zeros and more digits, so all
+// but the value would have to be looked at beside it.
 pub fn number_at(text: &[u8]) -> Option<Read>
     ensures value { result ≡ number_at text.now 0 }
     ensures small { Small (length text.now) result }

@@ -13,7 +13,8 @@ use std::io::{IsTerminal, Write};
 const ROOM: usize = sheet::LONGEST + 1;
 
 // Puts all that is printed for the text at the start of a buffer, and gives how many bytes that is. The
-// buffer has room for more than the longest sheet, so that no longer text is cut to one.
+// buffer has room for more than the longest sheet, so that no longer text is cut to one: that is asked of
+// the whole buffer, so it comes with the count of its bytes that were read.
 fn put_printed(buffer: &[u8], count: usize, out: &mut [u8; report::ROOM]) -> usize
     requires { IsPrefixLen count buffer.now × (longest < length buffer.now) }
     ensures out_after { take result out.new ≡ report_of (take count buffer.now) }

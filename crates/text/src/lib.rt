@@ -8,7 +8,8 @@ ghost use Rattle.text.specs.Put.{out, puts};
 
 pub mod scan;
 
-// A lent buffer, and the index in it from which on texts are put.
+// A lent buffer, and the index in it from which on texts are put. Each method says that the buffer is
+// the same still, since without that a caller knows nothing of what it lent.
 #[derive(Drop)]
 pub struct Output<'a> {
     pub buffer: &'a mut [u8],
@@ -59,7 +60,8 @@ impl<'a> Output<'a> {
         self.text(b"\n");
     }
 
-    // Puts a number, with a minus sign where it is below 0.
+    // Puts a number, with a minus sign where it is below 0. The sign is a text of its own, which finds room
+    // or not; the library's text of a number would have both in one.
     pub fn signed(&mut self, n: i64)
         ensures same_buffer { self.new.buffer.ghost_name ≡ self.old.buffer.ghost_name }
         ensures put { out self.new.buffer.now self.new.at ≡ puts self.old.buffer.now self.old.at (signed_parts n) }
