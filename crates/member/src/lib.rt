@@ -34,8 +34,5 @@ pub fn factor(code: u64) -> Result<u64, Refusal>
 pub fn is_formula(load: u64, class: u64) -> bool
     ensures { result ≡ is_formula load class }
 {
-    if class == 1 {
-        return load <= 5000;
-    }
-    false
+    class == 1 && load <= 5000
 }

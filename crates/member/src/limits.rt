@@ -6,8 +6,5 @@ ghost use Rattle.member.specs.Between.{between};
 pub fn is_between(low: u64, high: u64, n: u64) -> bool
     ensures { result ≡ between low high n }
 {
-    if n < low {
-        return false;
-    }
-    n <= high
+    (low..=high).contains(&n)
 }
