@@ -4,4 +4,6 @@ pub mod Digits
 pub mod Sign
 pub mod Lines
 pub mod LineEnd
+pub mod Passed
+pub mod Fewest
 pub mod Puts
