@@ -3,8 +3,6 @@
 use Rattle.std.specs.Prelude.{ℕ, Result, Ok, Err}
 use Rattle.refusal.specs.declared.Refusal.{Refusal}
 use Rattle.refusal.specs.declared.Refused.{Refused}
-use Rattle.refusal.specs.declared.Answer.{Answer}
-use Rattle.refusal.specs.declared.Answer.TheVariants as A
 use Rattle.refusal.specs.Refusal.{number_of}
 
 -- 01, Numbers by the place of checking: what is given, or the number of the first condition that holds, with what comes back,
@@ -20,11 +18,6 @@ Said A = Told (Unit {0}) A
 -- 01, Numbers by the place of checking: what comes back then
 abbrev pub nothing : Unit {0}
 nothing = tt
-
--- 01, Where each language form belongs: the number and the value of each case of an answer
-unfoldable pub said_answer : Answer → Said ℕ
-said_answer (A.Gives n) = gives n
-said_answer (A.Refused r) = refused (number_of r) nothing
 
 -- 01, Where each language form belongs: the number and the value of each case of an answer
 unfoldable pub said : {A : Type 0} → Result A Refusal → Said A

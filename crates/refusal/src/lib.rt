@@ -49,13 +49,6 @@ pub struct Refused<B> {
     pub back: B,
 }
 
-// A whole number, or why there is none.
-#[derive(Clone, Copy)]
-pub enum Answer {
-    Gives(u64),
-    Refused(Refusal),
-}
-
 // The paper's number of a refusal.
 pub fn number(refusal: Refusal) -> u64
     ensures { result ≡ number_of refusal }
