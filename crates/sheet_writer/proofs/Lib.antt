@@ -3,4 +3,5 @@ pub mod AnswerExamples
 pub mod Texts
 pub mod Sizes
 pub mod Checks
+pub mod Seven
 pub mod RoundTrip
