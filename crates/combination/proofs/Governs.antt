@@ -21,10 +21,9 @@ use Rattle.combination.specs.theorems.Governs.{GovernsFirst, Governs}
 -- ---- a step of the search, and its end
 
 module _ (beats : ℤ → ℤ → Bool) (ss : List ℤ) where
-  pub best_step : (b : Best) (i : ℕ) → i < length ss
-      → best_from beats b (suc i) (drop i ss) ≡ best_from beats (better beats b (suc i) (get_or ss i (pos 0))) (suc (suc i)) (drop (suc i) ss)
+  pub best_step : (b : Best) (r i : ℕ) → i < length ss → best_from beats b r (drop i ss) ≡ best_from beats (better beats b r (get_or ss i (pos 0))) (suc r) (drop (suc i) ss)
   unfolding best_from
-  best_step b i h = rw (drop-cons ss i (pos 0) h)
+  best_step b r i h = rw (drop-cons ss i (pos 0) h)
 
   pub best_end : (b : Best) (r i : ℕ) → length ss ≤ i → best_from beats b r (drop i ss) ≡ b
   unfolding best_from
@@ -38,15 +37,16 @@ module _ (beats : ℤ → ℤ → Bool) (ss : List ℤ) where
       go [] k = absurd (not-suc-le-zero k)
       go (s ∷ l) k = refl
 
-  -- a turn of the code's loop: p is the best sum so far and v the new one, as the code compares them
-  pub best_turn : (i : ℕ) (b : Best) {b' : Best} {p v : ℤ} → i < length ss → p ≡ b.tenths → v ≡ get_or ss i (pos 0) → b' ≡ cond (beats v p) (record { row = i + 1; tenths = v }) b
-      → best_from beats b (suc i) (drop i ss) ≡ best beats ss
-      → best_from beats b' (suc (i + 1)) (drop (i + 1) ss) ≡ best beats ss
+  -- a turn of the code's loop: s is the sum at the index, and t says whether it beats the best sum so far
+  pub best_turn : (i : ℕ) (b : Best) {b' : Best} {s : ℤ} {t : Bool} {end : Best} → i < length ss → s ≡ get_or ss i (pos 0) → t ≡ beats s b.tenths → b' ≡ cond t (record { row = i + 2; tenths = s }) b
+      → best_from beats b (i + 2) (drop i ss) ≡ end
+      → best_from beats b' (i + 1 + 2) (drop (i + 1) ss) ≡ end
   unfolding better
-  best_turn i b {b'} h k l q e =
+  best_turn i b {b'} {s} {t} h l k q e =
       let one : i + 1 ≡ suc i = add-one i in
-      let c : b' ≡ better beats b (suc i) (get_or ss i (pos 0)) = cc in
-      rw (one, c) (sym (best_step b i h) ∙ e)
+      let row : i + 1 + 2 ≡ suc (i + 2) = omega arith in
+      let c : b' ≡ better beats b (i + 2) (get_or ss i (pos 0)) = cc in
+      rw (row, one, c) (sym (best_step b (i + 2) i h) ∙ e)
 
 -- ---- less and greater are orders
 
@@ -135,7 +135,7 @@ module _ {beats : ℤ → ℤ → Bool} (o : Order beats) (ss : List ℤ) where
       let k : n ≡ length ss = omega arith in
       subst (Leads (length ss)) (sym (best_end beats ss b (suc n) n (omega arith))) (subst (λ (m : ℕ). Leads m b) k g)
   rest (suc d) n b e g =
-      subst (Leads (length ss)) (sym (best_step beats ss b n (omega arith)))
+      subst (Leads (length ss)) (sym (best_step beats ss b (suc n) n (omega arith)))
       (rest d (suc n) (better beats b (suc n) (get_or ss n (pos 0))) (omega arith) (more n b g))
 
   pub best_governs : 0 < length ss → Governs beats ss (best beats ss).row (best beats ss).tenths

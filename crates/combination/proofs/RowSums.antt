@@ -52,6 +52,10 @@ size_mul (negsuc a) (negsuc b) = refl
 pub size_product : (f x : ℤ) {p q : ℕ} → nat_abs f ≤ p → nat_abs x ≤ q → nat_abs (f *ℤ x) ≤ p * q
 size_product f x {p} {q} h k = subst (λ (n : ℕ). n ≤ p * q) (sym (size_mul f x)) (mul-le-mul h k)
 
+-- with one product more
+pub size_sum : (a b : ℤ) (n : ℕ) → nat_abs a ≤ most_product * n → nat_abs b ≤ most_product → nat_abs (a +ℤ b) ≤ most_product * (n + 1)
+size_sum a b n h k = omega (arith, size_add a b)
+
 -- ---- the sum of a row
 
 sum_size : (fs xs : List ℤ) → EachAtMost 16 fs → EachAtMost limit xs → nat_abs (sum_of fs xs) ≤ most_product * length fs

@@ -1,10 +1,10 @@
 // The 25 load combinations, and the search for the rows that govern. The effects are within the limit.
-ghost use Rattle.std.specs.Prelude.{◌≡◌, cond, ◌≤◌, ◌<◌, ◌^◌, nat_abs, pos, length, get_or};
+ghost use Rattle.std.specs.Prelude.{◌≡◌, ◌≤◌, ◌<◌, ◌^◌, ℤ, Bool, nat_abs, pos, length, get_or};
 ghost use Rattle.newtons.specs.Effect.{limit};
 ghost use Rattle.effects.specs.Check.{newtons_of};
 ghost use Rattle.combination.specs.Factors.{factors};
 ghost use Rattle.combination.specs.Governing.{sum_of, sums, best};
-ghost use Rattle.combination.specs.inner.Sense.{sense};
+ghost use Rattle.combination.specs.inner.Sense.{Tests};
 ghost use Rattle.combination.specs.Combine.{row_of, governing};
 ghost use Rattle.effects.specs.inner.Sized.{Seven};
 
@@ -54,25 +54,15 @@ fn factors_of() -> [[i8; 7]; 25]
     FACTORS
 }
 
-// A factor, as wide as an effect.
-fn wide(factor: i8) -> i64
-    requires { nat_abs factor ≤ 16 }
-    ensures { result ≡ factor }
-{
-    factor as i64
-}
-
-// The sum of a row: from the last effect to the first, as the definition adds.
+// The sum of a row, each factor times its effect.
 fn sum_of(factors: [i8; 7], newtons: [i64; 7]) -> i64
     requires seven_factors { Seven 16 factors }
     requires seven_newtons { Seven limit newtons }
     ensures { result ≡ sum_of factors newtons }
 {
     let mut sum = 0i64;
-    let mut j = 7usize;
-    while j > 0 {
-        j -= 1;
-        sum = wide(factors[j]) * newtons[j] + sum;
+    for (j, factor) in factors.iter().enumerate() {
+        sum += i64::from(*factor) * newtons[j];
     }
     sum
 }
@@ -123,45 +113,25 @@ fn sums_of(newtons: [i64; 7]) -> [i64; 25]
     ]
 }
 
-// Whether a sum goes further than another: it is greater, or it is less.
-fn beats(greatest: bool, a: i64, b: i64) -> bool
-    ensures { result ≡ sense greatest a b }
-{
-    if greatest {
-        return a > b;
-    }
-    a < b
-}
-
-// The row that is best now: a later one only where it beats the best so far.
-fn better_of(beats: bool, best: Best, row: u64, tenths: i64) -> Best
-    ensures { result ≡ cond beats (record { row = row; tenths = tenths }) best }
-{
-    if beats {
-        return Best {
-            row: row,
-            tenths: tenths,
-        };
-    }
-    best
-}
-
-// The row with the greatest or the least of some sums; where sums are equal, the lowest row. Over a
-// slice it is short enough to be compiled into each call, where the sense is known.
-fn best_of(greatest: bool, sums: &[i64]) -> Best
-    requires { 0 < length sums.now }
-    ensures { result ≡ best (sense greatest) sums.now }
+// The row whose sum beats all others; where sums are equal, the lowest row. Over a slice it is short
+// enough to be compiled into each call, where the test is known.
+fn best_of<F: Fn(i64, i64) -> bool>(beats: F, sums: &[i64]) -> Best
+    requires some { 0 < length sums.now }
+    requires callable { F.IsAlwaysCallable beats }
+    ensures { (test : ℤ → ℤ → Bool) → Tests (F.post beats) test → result ≡ best test sums.now }
 {
     let mut found = Best {
         row: 1,
         tenths: sums[0],
     };
-    let mut i = 1usize;
-    while i < sums.len() {
-        let sum = sums[i];
-        i += 1;
-        let row = i as u64;
-        found = better_of(beats(greatest, sum, found.tenths), found, row, sum);
+    let others = &sums[1..];
+    for (i, sum) in others.iter().enumerate() {
+        if beats(*sum, found.tenths) {
+            found = Best {
+                row: i as u64 + 2,
+                tenths: *sum,
+            };
+        }
     }
     found
 }
@@ -186,7 +156,7 @@ pub fn governing_of(newtons: Newtons) -> Governing
 {
     let sums = sums_of(newtons.in_order());
     Governing {
-        greatest: row_of(best_of(true, &sums)),
-        least: row_of(best_of(false, &sums)),
+        greatest: row_of(best_of(|a, b| a > b, &sums)),
+        least: row_of(best_of(|a, b| a < b, &sums)),
     }
 }

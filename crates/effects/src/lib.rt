@@ -83,6 +83,7 @@ pub struct LoadEffect {
 }
 
 // The effect of one load in whole newtons, or its refusal.
+#[inline(always)]
 fn whole_of(load: Load, double: f64) -> Result<i64, Refused<LoadEffect>>
     ensures { told result ≡ if_given (load_effect load double) (effect_of double) (λ z. gives z) }
 {

@@ -1,6 +1,5 @@
 -- `combination::search::governing_of` meets its contract: both searches are of the definition's sums. Assumes nothing.
 use mathlib.Core.Path.{◌≡◌, sym, ◌∙◌, ap, ap₂, subst}
-use mathlib.Core.Bool.{true, false}
 use Prim.Native.Nat.{◌^◌, ◌≤◌}
 use native.Mathlib.Omega.{arith}
 use lib.IntN.{nat_abs}
@@ -10,11 +9,11 @@ use Rattle.effects.specs.inner.Sized.{Seven}
 use Rattle.combination.specs.declared.Governing.{Governing}
 use Rattle.combination.specs.declared.GoverningRow.{GoverningRow}
 use Rattle.combination.specs.declared.search.Best.{Best}
-use Rattle.combination.specs.inner.Sense.{sense}
-use Rattle.combination.specs.Governing.{sums, best}
+use Rattle.combination.specs.Governing.{greater, less, sums, best}
 use Rattle.combination.specs.Combine.{row_of, governing}
 use Rattle.combination.proofs.Governs.{less_order, greater_order}
 use Rattle.combination.proofs.Answers.{best_held}
+use borrow.Author.Rules.{rules}
 use Rattle.combination.proofs.search.governing_of.Goals as goal
 use Rattle.combination.proofs.search.governing_of.Goals.{After-best_of, After-best_of-2, After-in_order}
 
@@ -27,11 +26,11 @@ pub sums_of-sums-requires : goal.sums_of-sums-requires
 sums_of-sums-requires c = within (goal.at.sums_of-sums-requires c).After-in_order
 
 -- each search finds the best of the definition's sums
-greatest-is : (c : After-best_of) → c.best_of.result ≡ best (sense true) (sums c.in_order.result)
-greatest-is c = c.best_of.ensures ∙ ap (best (sense true)) c.sums_of-sums.ensures
+greatest-is : (c : After-best_of) → c.best_of.result ≡ best greater (sums c.in_order.result)
+greatest-is c = c.best_of.ensures greater (λ a b r f h p. search rules) ∙ ap (best greater) c.sums_of-sums.ensures
 
-least-is : (c : After-best_of-2) → c.best_of-2.result ≡ best (sense false) (sums c.in_order.result)
-least-is c = c.best_of-2.ensures ∙ ap (best (sense false)) c.sums_of-sums.ensures
+least-is : (c : After-best_of-2) → c.best_of-2.result ≡ best less (sums c.in_order.result)
+least-is c = c.best_of-2.ensures less (λ a b r f h p. search rules) ∙ ap (best less) c.sums_of-sums.ensures
 
 pub row_of-requires : goal.row_of-requires
 row_of-requires c = omega (arith, subst (λ (b : Best). nat_abs b.tenths ≤ 2 ^ 53) (sym (greatest-is (goal.at.row_of-requires c).After-best_of)) (best_held greater_order _ (within (goal.at.row_of-requires c).After-in_order)))
