@@ -52,6 +52,7 @@ fn read_fields<const N: usize>(line: &[u8], keys: &[&[u8]]) -> Option<[u64; N]>
 }
 
 // A line `member=` and a code.
+#[tactic(auto, unfolding(crate::specs::Form::member_form, crate::specs::Form::member_keys, crate::specs::Form::form_by))]
 fn member_form(line: &[u8]) -> Option<Form>
     ensures { result ≡ member_form line.now }
 {
@@ -60,6 +61,7 @@ fn member_form(line: &[u8]) -> Option<Form>
 }
 
 // A line with the numbers of a floor line, each after its key.
+#[tactic(auto, unfolding(crate::specs::Form::floor_form, crate::specs::Form::floor_keys, crate::specs::Form::form_by, crate::specs::Form::line_from))]
 fn floor_form(line: &[u8]) -> Option<Form>
     ensures { result ≡ floor_form line.now }
 {
@@ -74,6 +76,7 @@ fn floor_form(line: &[u8]) -> Option<Form>
 }
 
 // The number that the whole of a text is.
+#[tactic(auto, unfolding(crate::specs::inner::InLine::whole_number, crate::specs::Form::with_number, crate::specs::inner::InLine::Small))]
 fn whole_number(text: &[u8]) -> Option<u64>
     ensures value { result ≡ whole_number text.now }
     ensures small { IfSome result (λ n. n < 10000000000000) }
@@ -132,6 +135,7 @@ fn effect_key(place: usize) -> Option<&'static [u8]>
 }
 
 // What a line says where the effect at a place is due.
+#[tactic(auto, using(crate::proofs::AtPlace::get_none, crate::proofs::AtPlace::get_some), unfolding(crate::specs::Form::later_form, crate::specs::Form::effect_keys))]
 fn later_form(place: usize, line: &[u8]) -> Option<Form>
     ensures { result ≡ later_form place line.now }
 {
@@ -143,6 +147,7 @@ fn later_form(place: usize, line: &[u8]) -> Option<Form>
 }
 
 // What a line says, without its newline, where a line of some kind is due.
+#[tactic(auto, unfolding(refusal::specs::Said::said, crate::specs::Form::form_of, crate::specs::Form::said_form, crate::specs::Form::line_said))]
 pub fn form_of(due: Due, line: &[u8]) -> Result<Form, Refusal>
     ensures { said result ≡ line_said due line.now }
 {

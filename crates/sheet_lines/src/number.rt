@@ -51,6 +51,7 @@ pub fn number_at(text: &[u8]) -> Option<Read>
 }
 
 // The number behind a key that stands at the start of a text.
+#[tactic(auto, using(crate::proofs::Moved::field_behind, crate::proofs::AtPlace::strip_is), unfolding(crate::specs::Number::field_at, crate::specs::inner::InLine::Small))]
 pub fn field_at(text: &[u8], key: &[u8]) -> Option<Read>
     ensures value { result ≡ field_at key.now text.now 0 }
     ensures small { Small (length text.now) result }

@@ -35,6 +35,7 @@ impl<'a> Output<'a> {
     }
 
     // Puts the decimal digits of a number, as `text` does.
+    #[tactic(auto, using(crate::proofs::Digits::written_decimal))]
     pub fn decimal(&mut self, n: u64)
         ensures same_buffer { self.new.buffer.ghost_name ≡ self.old.buffer.ghost_name }
         ensures put { out self.new.buffer.now self.new.at ≡ puts self.old.buffer.now self.old.at (decimal n ∷ []) }
