@@ -2,3 +2,4 @@
 pub mod Answers
 pub mod Examples
 pub mod InTurn
+pub mod InPlace
