@@ -20,10 +20,10 @@ use Rattle.sheet_lines.proofs.AtPlace.{read, chosen, either, begins_from, begins
 use Rattle.sheet_lines.proofs.NumberText.{NoDigit, stops_end, stops_low, number_from_lem, number_to}
 
 -- what holds of going on with a number, by cases
-pub with_number_lem : {A : Type 0} (P : Option A → Type 0) (n : Option Read) (go : ℕ → ℕ → Option A) → P None → ((v p : ℕ) → n ≡ Some (read v p) → P (go v p)) → P (with_number n go)
+pub with_number_lem : {A : Type 0} (P : A → Type 0) (other : A) (n : Option Read) (go : ℕ → ℕ → A) → P other → ((v p : ℕ) → n ≡ Some (read v p) → P (go v p)) → P (with_number other n go)
 unfolding with_number
-with_number_lem P (Some r) go f k = k r.value r.next refl
-with_number_lem P None go f k = f
+with_number_lem P other (Some r) go f k = k r.value r.next refl
+with_number_lem P other None go f k = f
 
 field_from : (key l : List ℕ) (at v p : ℕ) → field_at key l at ≡ Some (read v p) → drop at l ≡ key ++ (decimal v ++ drop p l)
 unfolding field_at
@@ -49,7 +49,7 @@ fields_from_lem [] done l at ns =
     record { numbers = []; all = sym same ∙ sym (append-nil done); text = drop_of_length-le l {i = at} (omega (arith, eqb-true at (length l) h)); each = refl })
     λ _ k. let z : ◌≡◌ {A = ℕ} 0 1 = cc in absurd (omega arith)
 fields_from_lem (key ∷ keys) done l at ns =
-    with_number_lem (λ o. o ≡ Some ns → ReadFrom done (key ∷ keys) (drop at l) ns) (field_at key l at) _
+    with_number_lem (λ o. o ≡ Some ns → ReadFrom done (key ∷ keys) (drop at l) ns) None (field_at key l at) _
     (λ k. let z : ◌≡◌ {A = ℕ} 0 1 = cc in absurd (omega arith)) λ v p n e.
     let r = fields_from_lem keys (done ++ (v ∷ [])) l p ns e in
     record {

@@ -64,15 +64,15 @@ field_rest key l at p =
     go false = refl
 
 -- how a number that is counted from further back is gone on with
-with_moved : {A : Type 0} (n : ℕ) (o : Option Read) (go : ℕ → ℕ → Option A) → with_number (moved n o) go ≡ with_number o λ v p. go v (n + p)
+with_moved : {A : Type 0} (other : A) (n : ℕ) (o : Option Read) (go : ℕ → ℕ → A) → with_number other (moved n o) go ≡ with_number other o λ v p. go v (n + p)
 unfolding with_number
-with_moved n None go = refl
-with_moved n (Some r) go = refl
+with_moved other n None go = refl
+with_moved other n (Some r) go = refl
 
-with_same : {A : Type 0} (o : Option Read) (f g : ℕ → ℕ → Option A) → ((v p : ℕ) → f v p ≡ g v p) → with_number o f ≡ with_number o g
+with_same : {A : Type 0} (other : A) (o : Option Read) (f g : ℕ → ℕ → A) → ((v p : ℕ) → f v p ≡ g v p) → with_number other o f ≡ with_number other o g
 unfolding with_number
-with_same None f g e = refl
-with_same (Some r) f g e = e r.value r.next
+with_same other None f g e = refl
+with_same other (Some r) f g e = e r.value r.next
 
 at_end : (l : List ℕ) (at p : ℕ) → at ≤ length l → eqb (at + p) (length l) ≡ eqb p (length (drop at l))
 at_end l at p h = go (eqb p (length (drop at l))) refl
@@ -86,8 +86,8 @@ unfolding fields_from
 fields_moved done [] l at p h = rw (at_end l at p h)
 fields_moved done (key ∷ keys) l at p h =
     rw (field_rest key l at p)
-    (with_moved at (field_at key (drop at l) p) (λ n next. fields_from (done ++ (n ∷ [])) keys l next)
-    ∙ with_same (field_at key (drop at l) p) _ _ λ n q. fields_moved (done ++ (n ∷ [])) keys l at q h)
+    (with_moved None at (field_at key (drop at l) p) (λ n next. fields_from (done ++ (n ∷ [])) keys l next)
+    ∙ with_same None (field_at key (drop at l) p) _ _ λ n q. fields_moved (done ++ (n ∷ [])) keys l at q h)
 
 pub fields_rest : (done : List ℕ) (keys : List (List ℕ)) (l : List ℕ) (at : ℕ) → at ≤ length l → fields_from done keys l at ≡ fields_from done keys (drop at l) 0
 fields_rest done keys l at h = ap (fields_from done keys l) (sym (add-zero at)) ∙ fields_moved done keys l at 0 h
@@ -107,7 +107,7 @@ of_number None f = None
 of_number (Some n) f = f n
 
 with_whole : {A : Type 0} (o : Option Read) (n : ℕ) (f : ℕ → Option A)
-    → with_number o (λ v next. cond (eqb next n) (f v) None) ≡ of_number (with_number o (λ v next. cond (eqb next n) (Some v) None)) f
+    → with_number None o (λ v next. cond (eqb next n) (f v) None) ≡ of_number (with_number None o (λ v next. cond (eqb next n) (Some v) None)) f
 unfolding with_number
 with_whole None n f = refl
 with_whole (Some r) n f = go (eqb r.next n)
@@ -122,8 +122,8 @@ pub end_is : (k : ℕ) (l : List ℕ) (at : ℕ) (negative : Bool) → at ≤ le
 unfolding effect_end whole_number
 end_is k l at negative h =
     rw (ap (number_at l) (sym (add-zero at)) ∙ number_rest l at 0)
-    (with_moved at (number_at (drop at l) 0) (λ v next. cond (eqb next (length l)) (cond (negative && eqb v 0) None (Some (Effect k (signed negative v)))) None)
-    ∙ (with_same (number_at (drop at l) 0) _ _ (λ v q. rw (at_end l at q h))
+    (with_moved None at (number_at (drop at l) 0) (λ v next. cond (eqb next (length l)) (cond (negative && eqb v 0) None (Some (Effect k (signed negative v)))) None)
+    ∙ (with_same None (number_at (drop at l) 0) _ _ (λ v q. rw (at_end l at q h))
     ∙ with_whole (number_at (drop at l) 0) (length (drop at l)) (λ v. cond (negative && eqb v 0) None (Some (Effect k (signed negative v))))))
 
 -- the form of an effect's line, from what stands behind its key, and behind its minus sign

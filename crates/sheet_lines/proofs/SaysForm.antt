@@ -73,7 +73,7 @@ module _ (k : ℕ) (h : k < effect_count) (l : List ℕ) where
   unfolding effect_end effect_text
   end_read at negative b =
       let R = Read (D.Effect k) l in
-      with_number_lem R (number_at l at) _ (malformed refl) λ v p n.
+      with_number_lem R None (number_at l at) _ (malformed refl) λ v p n.
       either R (eqb p (length l)) _ _
       (λ q.
       either R (negative && eqb v 0) _ _ (λ _. malformed refl) λ m.

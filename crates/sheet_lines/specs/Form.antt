@@ -31,15 +31,15 @@ effect_keys = bytes_of "dead=" ∷ bytes_of "roof=" ∷ bytes_of "snow=" ∷ byt
 abbrev pub effect_count : ℕ
 effect_count = 6
 
--- No part of the paper: goes on with a number and the place after it; without a number there is nothing
-unfoldable pub with_number : {A : Type 0} → Option Read → (ℕ → ℕ → Option A) → Option A
-with_number (Some r) go = go r.value r.next
-with_number None go = None
+-- No part of the paper: goes on with a number and the place after it; without a number there is this
+unfoldable pub with_number : {A : Type 0} → A → Option Read → (ℕ → ℕ → A) → A
+with_number other (Some r) go = go r.value r.next
+with_number other None go = other
 
 -- 01, The sheet: the numbers behind some keys, one after another from a place to the end of the line; with these before them
 unfoldable pub fields_from : List ℕ → List (List ℕ) → List ℕ → ℕ → Option (List ℕ)
 fields_from done [] l at = cond (eqb at (length l)) (Some done) None
-fields_from done (key ∷ keys) l at = with_number (field_at key l at) λ n next. fields_from (done ++ (n ∷ [])) keys l next
+fields_from done (key ∷ keys) l at = with_number None (field_at key l at) λ n next. fields_from (done ++ (n ∷ [])) keys l next
 
 -- 01, The sheet: what the numbers of a line say; without them it has not the form
 unfoldable pub form_by : Option (List ℕ) → (List ℕ → Form) → Option Form
@@ -61,7 +61,7 @@ floor_form l = form_by (fields_from [] floor_keys l 0) λ ns. Floor (line_from n
 -- 01, The sheet: the number that ends a line; a minus sign stands "never before 0"
 unfoldable pub effect_end : ℕ → List ℕ → ℕ → Bool → Option Form
 effect_end k l at negative =
-    with_number (number_at l at) λ value next.
+    with_number None (number_at l at) λ value next.
     cond (eqb next (length l)) (cond (negative && eqb value 0) None (Some (Effect k (signed negative value)))) None
 
 -- 01, The sheet: the line of the effect at a place; "a minus sign may stand only in the last six"

@@ -12,4 +12,4 @@ Small most None = Unit {0}
 
 -- the number that the whole of a text is
 unfoldable pub whole_number : List ℕ → Option ℕ
-whole_number text = with_number (number_at text 0) λ value next. cond (eqb next (length text)) (Some value) None
+whole_number text = with_number None (number_at text 0) λ value next. cond (eqb next (length text)) (Some value) None
