@@ -34,7 +34,7 @@ OF_ALL = "check tidy test verdict".split()
 OF_OTHERS = set(
     "antt auto bash cond file ensures fn ghost grep incremental let memcpy memset mod mut new old position printf python3 pub "
     "requires rt run self tactic trusted u64 unfolding use Vec where write io specs Counts TMPDIR N K O C CR double class record "
-    "abbrev unfoldable".split()
+    "abbrev unfoldable Option Some None Result Ok Err".split()
 )
 # How a name is declared: in definitions and proofs, in Rattle and Rust, in C, in Python and in scripts; and a sheet's keys.
 DECLARED = {
@@ -80,9 +80,16 @@ def sources(root):
     return [file for file in found if file.suffix in DECLARED and not file.name.startswith("test_")]
 
 
+def of_the_kit(root):
+    """The libraries of the kit that the crates are built on."""
+    lines = (root / "crates.txt").read_text(encoding="utf-8").splitlines()
+    named = {word for line in lines if not line.startswith("#") for word in line.partition(":")[2].split()}
+    return named - set(crates(root))
+
+
 def known_names(root):
     """Every name that is declared in the repository, the names of its files and folders, and some words of others."""
-    names = set(crates(root)) | OF_OTHERS
+    names = set(crates(root)) | of_the_kit(root) | OF_OTHERS
     for file in sources(root):
         text = re.sub(r"(?m)^ *(?:--|//|#)[^\n]*", "", file.read_text(encoding="utf-8", errors="replace"))
         for found in re.findall(DECLARED[file.suffix], text):
@@ -171,6 +178,7 @@ def wrong_pair(root, named, place):
     files = [root / "crates" / code for code in codes]
     texts = [(file.read_text(encoding="utf-8"), file.suffix) for file in files if file.is_file()]
     names = [name for name in CODE.findall(named) if texts and re.fullmatch(rf"{OPERATOR}|[^\W\d][\w·²-]*", name)]
+    names = [name for name in names if name not in of_the_kit(root) | OF_OTHERS]
     lacking = [name for name in names if not any(defines(text, name, suffix) for text, suffix in texts)]
     return [f"`{name}` is not in {', '.join(codes)}" for name in lacking]
 

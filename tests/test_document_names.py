@@ -20,7 +20,7 @@ README = """# A repository
     rt lib low && ls out/liblow.a && crates/low/out/low && gcc crates/low/out/liblow.a -L crates/low/out -o target/low
 
 `low` is told by `told` and `ask_open`, joined by `◌⊕◌`; `low::open::ask_open(n)`, `open::ask_open` and `Answer` are in
-the code, with `Answer::Gives`, `None`, `low::Answer::number(answer)`, `open::Lent::count` and what is `counted`; and `tests/run` and [the promises](docs/PROMISES.md) are files; `rt ci NAME`, `rt all check` and
+the code, with `Answer::Gives`, `None`, `Option`, `seeker`, `low::Answer::number(answer)`, `open::Lent::count` and what is `counted`; and `tests/run` and [the promises](docs/PROMISES.md) are files; `rt ci NAME`, `rt all check` and
 `crates/NAME/src/` stand for others, and `rt check --only FUNCTION` for a part.
 """
 AFTER = README.count("\n") + 2  # the number of a line behind it
@@ -58,7 +58,7 @@ pub struct Lent<'a> {
 }
 """
 FILES = {
-    "crates.txt": "low staticlib:\n",
+    "crates.txt": "# crates\nlow staticlib: seeker\n",
     "crates/low/src/lib.rt": LIB,
     "crates/low/src/open.rt": OPEN,
     "crates/low/specs/Told.antt": "-- old-law is stated in a comment alone\nabbrev pub told : ℕ → ℕ\ntold n = n\n",
