@@ -48,6 +48,7 @@ pub record RefusedEntries : Type 0 where
   pub number : ℕ
   pub place : ℕ
 
+-- No part of the paper: all three of the numbers of a list
 unfoldable pub refusals_of : List ℕ → RefusedEntries
 refusals_of numbers = record { count = refused_count numbers; number = first_number numbers; place = first_place 1 numbers }
 
@@ -61,5 +62,6 @@ unfoldable pub first_told : ℕ → Option (Refused ℕ) → RefusedEntries
 first_told n None = record { count = n; number = 0; place = 0 }
 first_told n (Some r) = record { count = n; number = number_of r.refusal; place = r.back }
 
+-- 01, Where each language form belongs: the same of what a call tells
 abbrev pub refusals_told : Refusals → RefusedEntries
 refusals_told r = first_told r.count r.first
