@@ -25,10 +25,11 @@ use Rattle.column.specs.declared.Line.{Line}
 use Rattle.column.specs.Line.{unpacked, key_of}
 use Rattle.column.specs.inner.Sound.{InLimits}
 use Rattle.figure.specs.declared.rates.Rate.{Rate}
-use Rattle.figure.specs.declared.rates.Shares.{Shares}
+use Rattle.figure.specs.declared.shares.Shares.{Shares}
 use Rattle.figure.specs.Carried.{is_formula_line}
 use Rattle.figure.specs.Figure.{line_figure}
-use Rattle.figure.specs.inner.Rates.{twentieths_rate, root_rate, share_rate, rate_of, formula_load, figure_by}
+use Rattle.figure.specs.inner.Rates.{twentieths_rate, root_rate, share_rate, rate_of}
+use Rattle.figure.specs.inner.Shared.{formula_load, figure_by}
 use Rattle.figure.proofs.Most.{line_most}
 
 -- what a rate gives for a load, and that it is not in doubt

@@ -14,10 +14,10 @@ use Rattle.lists.proofs.Lists.{all_first, all_rest}
 use Rattle.column.specs.declared.Line.{Line}
 use Rattle.column.specs.Line.{unpacked}
 use Rattle.column.specs.inner.Sound.{InLimits, line_at}
-use Rattle.figure.specs.declared.rates.Shares.{Shares}
+use Rattle.figure.specs.declared.shares.Shares.{Shares}
 use Rattle.figure.specs.Carried.{formula_lines, area_of, is_formula_line}
 use Rattle.figure.specs.inner.Totals.{formula_area, Lined, areas, figures, NotAbove, Ordered}
-use Rattle.figure.specs.inner.Rates.{figure_by}
+use Rattle.figure.specs.inner.Shared.{figure_by}
 use Rattle.figure.proofs.Carried.{area_total}
 use Rattle.figure.proofs.Most.{line_most}
 use Rattle.figure.proofs.Order.{ordered_first, ordered_rest}

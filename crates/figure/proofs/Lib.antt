@@ -5,7 +5,7 @@ pub mod Order
 pub mod HeldLines
 pub mod Marked
 pub mod ByRate
-pub mod Shares
+pub mod Kept
 pub mod Most
 pub mod Lowest
 pub mod Permuted

@@ -16,7 +16,7 @@ use Rattle.column.specs.declared.Column.{Column}
 use Rattle.column.specs.Line.{unpacked}
 use Rattle.column.specs.Column.{lines_of, Reached}
 use Rattle.column.specs.inner.Sound.{InLimits, line_at}
-use Rattle.figure.specs.declared.rates.Shares.{Shares}
+use Rattle.figure.specs.declared.shares.Shares.{Shares}
 use Rattle.figure.specs.declared.Working.{Working}
 use Rattle.figure.specs.declared.descent.Descent.{Descent}
 use Rattle.figure.specs.Carried.{formula_lines, has_floor, floors_of, area_of, influence_from, influence_of}
@@ -25,7 +25,7 @@ use Rattle.figure.specs.Asked.{working_of, asked_of, asked}
 use Rattle.figure.specs.Lowest.{lowest_figure}
 use Rattle.figure.specs.Workings.{working_said, workings_of}
 use Rattle.figure.specs.inner.Totals.{formula_area, Lined, areas, figures, At, DownTo, Below, Ordered}
-use Rattle.figure.specs.inner.Rates.{shares_at}
+use Rattle.figure.specs.inner.Shared.{SharesOf}
 use Rattle.figure.specs.inner.Descent.{RunAt, working_put, Descended, NextOf}
 use Rattle.figure.proofs.Carried.{Other, has_none, has_at, floors_run, carried_front}
 use Rattle.figure.proofs.Order.{ordered_back}
@@ -80,9 +80,9 @@ rest_after ns first run back e = sym (drop-drop (length run) first ns) ∙ (ap (
 -- ---- the walk
 
 -- it begins above the first line
-pub descended_top : (m : Member) (ns : List ℕ) (s : Shares) → between 1 12 m.code ≡ true → Lined ns → Ordered (map unpacked ns) → s ≡ shares_at 0 (influence_from m 0)
+pub descended_top : (m : Member) (ns : List ℕ) (s : Shares) → between 1 12 m.code ≡ true → Lined ns → Ordered (map unpacked ns) → SharesOf 0 (influence_from m 0) s
     → Descended m ns (record { lines = 0; floor = 0; area = record { 0 = 0 }; shares = s; figure = 0 })
-unfolding shares_at floors_of influence_of area_of formula_lines keep total
+unfolding floors_of influence_of area_of formula_lines keep total
 descended_top m ns s code ok o e =
     record {
       code = code;
@@ -92,7 +92,7 @@ descended_top m ns s code ok o e =
       floor_most = omega arith;
       above = none;
       below = all_so {P = InLimits} {Q = Below 0} (λ l h. h.floor.0) (all_of {P = InLimits} ns ok.1);
-      floors_most = omega (arith, ap (λ (t : Shares). t.floors) e);
+      floors_most = omega (arith, e.0);
       shares = e;
       area = refl;
       figure = refl;
@@ -144,17 +144,16 @@ module _ {m : Member} {ns : List ℕ} {d : Descent} {run : List ℕ} (h : Descen
   lower = each_of {P = Below d.floor} run (all_front (map unpacked run) (map unpacked r.rest) (rw (r.is, map-append unpacked run r.rest) at h.below)) 0 0 r.some
 
   floors : floors_of (map unpacked (take (d.lines + length run) ns)) ≡ d.shares.floors + 1
-  unfolding shares_at
-  floors = rw (both, h.shares) (floors_with front run r.some (all_so {P = DownTo d.floor} {Q = Other line.floor} (λ l q e. omega (arith, lower)) h.above) r.same)
+  floors = rw (both, h.shares.0) (floors_with front run r.some (all_so {P = DownTo d.floor} {Q = Other line.floor} (λ l q e. omega (arith, lower)) h.above) r.same)
 
   -- their formula lines' area is that above and that of the new ones
   pub run_areas : areas (take (d.lines + length run) ns) ≡ d.area.0 + areas run
   run_areas = rw (run_front h.few r, h.area) (sum_by-append (λ k. formula_area (unpacked k)) (take d.lines ns) run)
 
   pub next_of : (n : Descent) → n.lines ≡ d.lines + length run → n.floor ≡ line.floor → n.area.0 ≡ d.area.0 + areas run
-      → n.shares ≡ shares_at (d.shares.floors + 1) (influence_from m n.area.0)
+      → SharesOf (d.shares.floors + 1) (influence_from m n.area.0) n.shares
       → n.figure ≡ figures n.shares (take (d.lines + length run) ns) → NextOf m ns d run n
-  unfolding influence_of shares_at
+  unfolding influence_of
   next_of n lines floor area shares figure =
       let areas_are : n.area.0 ≡ areas (take n.lines ns) = rw (lines, area) (sym run_areas) in
       record {
@@ -167,8 +166,8 @@ module _ {m : Member} {ns : List ℕ} {d : Descent} {run : List ℕ} (h : Descen
               floor_most = rw floor (each_of {P = InLimits} run (all_of {P = InLimits} run (run_lined h.few r h.lined).1) 0 0 r.some).floor.1;
               above = rw (lines, floor, both) (all_append (all_so {P = DownTo d.floor} {Q = DownTo line.floor} (λ l q. omega (arith, lower)) h.above) (all_so {P = At line.floor} {Q = DownTo line.floor} (λ l q. omega (arith, q)) r.same));
               below = rw (lines, floor, run_rest h.few r) r.below;
-              floors_most = omega (arith, ap (λ (s : Shares). s.floors) shares, h.floors_most, lines, r.some);
-              shares = shares ∙ rw (areas_are, areas_total (take n.lines ns), lines, floors);
+              floors_most = omega (arith, shares.0, h.floors_most, lines, r.some);
+              shares = (shares.0 ∙ rw (lines, floors), shares.1 ∙ rw (areas_are, areas_total (take n.lines ns)));
               area = areas_are;
               figure = rw lines figure;
             };
@@ -190,9 +189,9 @@ module _ (c : Column) {ns : List ℕ} (seen : map unpacked ns ≡ lines_of c) wh
     -- the lines before the place are those carried, so what holds of them is what asking at the floor gives
     working_here : has_floor d.floor (lines_of c) ≡ true
         → working_said (asked c d.floor) ≡ Some (record { floors = d.shares.floors; influence = d.shares.influence; figure = d.figure })
-    unfolding asked_of working_of working_said figure_of shares_at
+    unfolding asked_of working_of working_said figure_of
     working_here has =
-        rw (has, split, carried_front d.floor h.above h.below, h.figure, figures_total d.shares (take d.lines ns), h.shares)
+        rw (has, split, carried_front d.floor h.above h.below, h.figure, figures_total d.shares (take d.lines ns), h.shares.0, h.shares.1)
 
     -- at the end of the lines the table has every floor
     pub all_passed : drop d.lines ns ≡ [] → passed_to c d.floor ≡ workings_of c 64
@@ -202,10 +201,10 @@ module _ (c : Column) {ns : List ℕ} (seen : map unpacked ns ≡ lines_of c) wh
 
     -- and the figure is that of all lines
     pub all_summed : Reached c → drop d.lines ns ≡ [] → d.figure ≡ lowest_figure c.member (lines_of c)
-    unfolding figure_of shares_at
+    unfolding figure_of
     all_summed r e =
         let all : take d.lines ns ≡ ns = sym (append-nil (take d.lines ns)) ∙ (ap (λ (l : List ℕ). take d.lines ns ++ l) (sym e) ∙ take-append-drop d.lines ns) in
-        rw (h.figure, figures_total d.shares (take d.lines ns), h.shares, all, seen) (sym (lowest_all r))
+        rw (h.figure, figures_total d.shares (take d.lines ns), h.shares.0, h.shares.1, all, seen) (sym (lowest_all r))
 
   -- the next floor's working put into the table
   module _ {d n : Descent} {run : List ℕ} (h : Descended c.member ns d) (r : RunAt ns d.lines run) (q : NextOf c.member ns d run n) where

@@ -6,11 +6,10 @@ ghost use Rattle.column.specs.Seen.{column_seen};
 ghost use Rattle.figure.specs.Lowest.{lowest_figure};
 ghost use Rattle.figure.specs.Workings.{workings_of};
 ghost use Rattle.figure.specs.inner.Totals.{Lined, figures};
-ghost use Rattle.figure.specs.inner.Rates.{Shared};
 ghost use Rattle.figure.specs.inner.Descent.{RunAt, working_put, Descended, NextOf};
 
 use crate::lines::floor_of;
-use crate::rates::Shares;
+use crate::shares::Shares;
 use crate::{FLOORS, Table, Working, lines, rates, sums};
 use column::{ColumnRef, Member};
 use member::TributaryArea;
@@ -30,7 +29,7 @@ struct Descent {
 // above, only the new ones are summed; a root is taken to differ, for X may have grown.
 fn figure_with(carried: &[u64], new: &[u64], above: Descent, here: Shares) -> u64
     requires lines { Lined carried.now × Lined new.now × (take above.lines carried.now ++ new.now ≡ carried.now) }
-    requires shares { Shared above.shares × Shared here × (above.shares.floors ≤ here.floors) }
+    requires shares { above.shares.floors ≤ here.floors }
     requires figure { above.figure ≡ figures above.shares (take above.lines carried.now) }
     ensures { result ≡ figures here carried.now }
 {

@@ -19,6 +19,7 @@ mod at_floor;
 mod descent;
 mod lines;
 mod rates;
+mod shares;
 mod sums;
 
 // How many floors there can be.

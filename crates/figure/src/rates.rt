@@ -5,8 +5,10 @@ ghost use Rattle.reduction.specs.Share.{other_twentieths};
 ghost use Rattle.column.specs.Line.{unpacked};
 ghost use Rattle.column.specs.inner.Sound.{InLimits};
 ghost use Rattle.figure.specs.Carried.{is_formula_line, influence_from};
-ghost use Rattle.figure.specs.inner.Rates.{twentieths_rate, rate_of, shares_at, Shared, formula_load, figure_by};
+ghost use Rattle.figure.specs.inner.Rates.{twentieths_rate, rate_of};
+ghost use Rattle.figure.specs.inner.Shared.{SharesOf, formula_load, figure_by};
 
+use crate::shares::Shares;
 use column::Member;
 use member::TributaryArea;
 use reduction::{Carried, InfluenceArea};
@@ -18,17 +20,6 @@ pub struct Rate {
     pub times: u64,
     pub plus: u64,
     pub doubt: u64,
-}
-
-// What the reduced loads of all lines at a floor follow from: n, X, the twentieths of the formula lines'
-// share where it is clamped, their rate, and `times` of class 2.
-#[derive(Clone, Copy)]
-pub struct Shares {
-    pub floors: u64,
-    pub influence: InfluenceArea,
-    pub clamped: Option<u64>,
-    pub formula: Rate,
-    pub other: u64,
 }
 
 // The unit of a rate, 2²⁶.
@@ -96,7 +87,7 @@ fn formula_rate(carried: Carried) -> Rate
 // The shares at so many floors, where the formula lines have this area.
 pub fn shares_at(member: Member, floors: u64, area: TributaryArea) -> Shares
     requires { (between 1 12 member.code ≡ true) × (area.0 ≤ 51200000) }
-    ensures { result ≡ shares_at floors (influence_from member area.0) }
+    ensures { SharesOf floors (influence_from member area.0) result }
 {
     let influence = influence_of(member, area);
     let carried = Carried { floors, influence };
@@ -123,7 +114,7 @@ fn searched_load(load: u64, shares: Shares) -> u64
 
 // R of a formula line.
 fn formula_load(load: u64, shares: Shares) -> u64
-    requires { (1 ≤ load) × (load ≤ 5000) × Shared shares }
+    requires { (1 ≤ load) × (load ≤ 5000) }
     ensures { result ≡ formula_load shares load }
 {
     let rate = shares.formula;
@@ -137,7 +128,7 @@ fn formula_load(load: u64, shares: Shares) -> u64
 
 // `times` of a line that the formula is not for: class 3 has the whole load.
 fn other_times(number: u64, shares: Shares) -> u64
-    requires { InLimits (unpacked number) × Shared shares }
+    requires { InLimits (unpacked number) }
     ensures { result ≡ (twentieths_rate (other_twentieths (unpacked number).class shares.floors)).times }
 {
     if column::key_of(number) < ASSEMBLY_FIRST {
@@ -156,7 +147,7 @@ pub fn is_formula(number: u64) -> bool
 
 // R × area of the line that a number holds.
 pub fn line_figure(number: u64, shares: Shares) -> u64
-    requires { InLimits (unpacked number) × Shared shares }
+    requires { InLimits (unpacked number) }
     ensures { (result ≡ figure_by shares (unpacked number)) × (result ≤ 10000000000) }
 {
     let line = column::line_of(number);

@@ -3,10 +3,10 @@ ghost use Rattle.std.specs.Prelude.{◌≡◌, ◌≤◌};
 ghost use Rattle.column.specs.Line.{unpacked};
 ghost use Rattle.column.specs.inner.Sound.{InLimits};
 ghost use Rattle.figure.specs.inner.Totals.{formula_area, Lined, areas, figures};
-ghost use Rattle.figure.specs.inner.Rates.{Shared, figure_by};
+ghost use Rattle.figure.specs.inner.Shared.{figure_by};
 
 use crate::rates;
-use crate::rates::Shares;
+use crate::shares::Shares;
 use member::TributaryArea;
 
 // The area of a formula line, and 0 of any other.
@@ -33,7 +33,7 @@ pub fn area_of(lines: &[u64]) -> TributaryArea
 // The sum of R × area.
 #[tactic(auto, using(crate::proofs::HeldLines::figures_most))]
 pub fn figure_of(lines: &[u64], shares: Shares) -> u64
-    requires { Lined lines.now × Shared shares }
+    requires { Lined lines.now }
     ensures { result ≡ figures shares lines.now }
 {
     lines

@@ -10,7 +10,7 @@ use Rattle.figure.specs.declared.Working.{Working}
 use Rattle.figure.specs.declared.descent.Descent.{Descent}
 use Rattle.figure.specs.Carried.{floors_of, influence_of}
 use Rattle.figure.specs.inner.Totals.{Lined, areas, figures, At, DownTo, Below, Ordered}
-use Rattle.figure.specs.inner.Rates.{shares_at}
+use Rattle.figure.specs.inner.Shared.{SharesOf}
 
 -- all the lines of a floor, which stand together from a place on; those after them are below it
 pub record RunAt (ns : List ℕ) (first : ℕ) (run : List ℕ) : Type 0 where
@@ -35,7 +35,7 @@ pub record Descended (m : Member) (ns : List ℕ) (d : Descent) : Type 0 where
   pub above : All (DownTo d.floor) (map unpacked (take d.lines ns))
   pub below : All (Below d.floor) (map unpacked (drop d.lines ns))
   pub floors_most : d.shares.floors ≤ d.lines
-  pub shares : d.shares ≡ shares_at (floors_of (map unpacked (take d.lines ns))) (influence_of m (map unpacked (take d.lines ns)))
+  pub shares : SharesOf (floors_of (map unpacked (take d.lines ns))) (influence_of m (map unpacked (take d.lines ns))) d.shares
   pub area : d.area.0 ≡ areas (take d.lines ns)
   pub figure : d.figure ≡ figures d.shares (take d.lines ns)
 

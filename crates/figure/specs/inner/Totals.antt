@@ -7,9 +7,9 @@ use Rattle.std.specs.List.{All as Each}
 use Rattle.lists.specs.Lists.{All}
 use Rattle.column.specs.declared.Line.{Line}
 use Rattle.column.specs.inner.Sound.{InLimits}
-use Rattle.figure.specs.declared.rates.Shares.{Shares}
+use Rattle.figure.specs.declared.shares.Shares.{Shares}
 use Rattle.figure.specs.Carried.{is_formula_line, carried, has_floor}
-use Rattle.figure.specs.inner.Rates.{figure_by}
+use Rattle.figure.specs.inner.Shared.{figure_by}
 
 -- the area that a line adds to the formula lines' area
 unfoldable pub formula_area : Line → ℕ

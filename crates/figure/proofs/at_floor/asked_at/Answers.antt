@@ -1,6 +1,5 @@
 -- `figure::at_floor::asked_at` meets its contract: each way out picks its case of the definition. Assumes nothing.
-use Rattle.std.proofs.Common.{◌≡◌, refl, ◌∙◌, ℕ, List, map, true, false, Err, rules}
-use mathlib.Core.Path.{subst⁻¹}
+use Rattle.std.proofs.Common.{◌≡◌, ◌∙◌, ℕ, List, map, true, false, Err, rules}
 use Rattle.refusal.specs.Said.{said, gives}
 use Rattle.refusal.specs.declared.Refusal.TheVariants.{NoLineAtFloor}
 use Rattle.refusal.specs.Refusal.{number_of}
@@ -13,9 +12,9 @@ use Rattle.column.proofs.Seen.{seen_reached}
 use Rattle.figure.specs.Carried.{formula_lines, carried, has_floor, floors_of, area_of, influence_from, influence_of}
 use Rattle.figure.specs.Figure.{figure_of}
 use Rattle.figure.specs.Asked.{working_of, asked_of}
-use Rattle.figure.specs.declared.rates.Shares.{Shares}
+use Rattle.figure.specs.declared.shares.Shares.{Shares}
 use Rattle.figure.specs.inner.Totals.{Front}
-use Rattle.figure.specs.inner.Rates.{shares_at, Shared, figure_by}
+use Rattle.figure.specs.inner.Shared.{figure_by, SharesOf}
 use Rattle.figure.proofs.HeldLines.{areas_most, areas_total, figures_total}
 use Rattle.figure.proofs.at_floor.asked_at.Goals as goal
 use Rattle.figure.proofs.at_floor.asked_at.Goals.{After-floors_in_order-floors}
@@ -37,17 +36,14 @@ shares_at-shares-requires c =
     ((sound (seen_reached c.args.column)).code, rw c.area_of-area.ensures (areas_most c.in_ok-carried.carried.now f.lined))
 
 pub figure_of-figure-requires : goal.figure_of-figure-requires
-unfolding shares_at
-figure_of-figure-requires c =
-    let f = front (goal.at.figure_of-figure-requires c).After-floors_in_order-floors in
-    (f.lined, subst⁻¹ Shared c.shares_at-shares.ensures refl)
+figure_of-figure-requires c = (front (goal.at.figure_of-figure-requires c).After-floors_in_order-floors).lined
 
 -- what was counted and summed of the lines carried is what asking gives
 summed : (m : Member) (ls front : List Line) (f : ℕ) (s : Shares) {n area figure : ℕ} → has_floor f ls ≡ true → carried f ls ≡ front
-    → n ≡ floors_of front → area ≡ area_of (formula_lines front) → s ≡ shares_at n (influence_from m area) → figure ≡ total (figure_by s) front
+    → n ≡ floors_of front → area ≡ area_of (formula_lines front) → SharesOf n (influence_from m area) s → figure ≡ total (figure_by s) front
     → gives (record { floors = n; influence = s.influence; figure = figure }) ≡ asked_of m ls f
-unfolding asked_of working_of figure_of influence_of shares_at
-summed m ls front f s has front-is floors area shares figure = rw (has, front-is, figure) (rw (shares, area, floors))
+unfolding asked_of working_of figure_of influence_of
+summed m ls front f s has front-is floors area shares figure = rw (has, front-is, figure) (rw (shares.0, shares.1, area, floors))
 
 pub returns : goal.returns
 unfolding said

@@ -6,23 +6,23 @@ use Rattle.std.proofs.lemmas.List.Sums.{sum_by-append}
 use Rattle.column.specs.declared.Line.{Line}
 use Rattle.column.specs.Line.{unpacked}
 use Rattle.figure.specs.inner.Totals.{figures}
-use Rattle.figure.specs.declared.rates.Shares.{Shares}
-use Rattle.figure.specs.inner.Rates.{Shared, figure_by}
+use Rattle.figure.specs.declared.shares.Shares.{Shares}
+use Rattle.figure.specs.inner.Shared.{figure_by}
 use Rattle.figure.proofs.HeldLines.{figures_most}
-use Rattle.figure.proofs.Shares.{figure_kept}
+use Rattle.figure.proofs.Kept.{figure_kept}
 use Rattle.figure.proofs.descent.figure_with.Goals as goal
 use Rattle.figure.proofs.descent.figure_with.Goals.{After-figure_of}
 
 -- the lines above and the new ones together
-together : (s t : Shares) (front new carried : List ℕ) {figure more : ℕ} → Shared s → Shared t → 2 ≤ s.floors → s.floors ≤ t.floors → IsSome t.clamped → option_eq eqb s.clamped t.clamped ≡ true
+together : (s t : Shares) (front new carried : List ℕ) {figure more : ℕ} → 2 ≤ s.floors → s.floors ≤ t.floors → IsSome t.clamped → option_eq eqb s.clamped t.clamped ≡ true
     → front ++ new ≡ carried → figure ≡ figures s front → more ≡ figures t new → figure + more ≡ figures t carried
-together s t front new carried h k two more some e is above below =
-    let same : figures s front ≡ figures t front = ap (λ (f : Line → ℕ). sum_by (λ n. f (unpacked n)) front) (figure_kept s t h k two more some e) in
+together s t front new carried two more some e is above below =
+    let same : figures s front ≡ figures t front = ap (λ (f : Line → ℕ). sum_by (λ n. f (unpacked n)) front) (figure_kept s t two more some e) in
     rw (above, below, same) (sym (ap (figures t) (sym is) ∙ sum_by-append (λ n. figure_by t (unpacked n)) front new))
 
 is_sum : (c : After-figure_of) → c.args.above.figure + c.figure_of.result ≡ figures c.args.here c.args.carried.now
 is_sum c =
-    together c.args.above.shares c.args.here _ c.args.new.now c.args.carried.now c.requires.shares.0 c.requires.shares.1 c.if-before-ge2.true c.requires.shares.2 (sym c.if-is_some.ensures) (sym c.if-eq.ensures)
+    together c.args.above.shares c.args.here _ c.args.new.now c.args.carried.now c.if-before-ge2.true c.requires.shares (sym c.if-is_some.ensures) (sym c.if-eq.ensures)
     c.requires.lines.2 c.requires.figure c.figure_of.ensures
 
 pub overflow_add-result : goal.overflow_add-result

@@ -1,10 +1,7 @@
 -- `figure::descent::next_floor` meets its contract. Assumes nothing.
 use Rattle.std.proofs.Common.{refl, sym, ap, arith, ℕ, ◌+◌, length}
 use Rattle.std.proofs.Math.Seq.{take-take}
-use Rattle.figure.specs.declared.rates.Shares.{Shares}
-use Rattle.figure.specs.inner.Rates.{shares_at}
 use Rattle.figure.proofs.HeldLines.{lined_take, areas_most}
-use Rattle.figure.proofs.Shares.{shared_at}
 use Rattle.figure.proofs.Walk.{run_front, run_lined, run_areas, next_of}
 use Rattle.figure.proofs.descent.next_floor.Goals as goal
 
@@ -30,10 +27,7 @@ figure_with-requires-clause-lines c =
     (lined_take end ns d.lined, run_lined d.few c.requires.1 d.lined, rw (take-take first end ns (omega arith)) (sym (run_front d.few c.requires.1)))
 
 pub figure_with-requires-clause-shares : goal.figure_with-requires-clause-shares
-unfolding shares_at
-figure_with-requires-clause-shares c =
-    let here = c.shares_at-here.ensures in
-    (shared_at _ _ c.requires.0.shares, shared_at _ _ here, omega (arith, ap (λ (s : Shares). s.floors) here))
+figure_with-requires-clause-shares c = omega (arith, c.shares_at-here.ensures.0)
 
 pub returns : goal.returns
 returns c =

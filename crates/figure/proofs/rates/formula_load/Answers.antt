@@ -1,18 +1,17 @@
 -- `figure::rates::formula_load` meets its contract: where the rate is not in doubt it gives the reduced load. Assumes nothing.
-use mathlib.Core.Path.{◌≡◌, subst⁻¹, ap}
+use mathlib.Core.Path.{◌≡◌, subst⁻¹}
 use Prim.Native.Nat.{◌*◌, ◌≤◌}
 use native.Mathlib.Nat.{mul-le-mul}
 use native.Mathlib.Omega.{arith}
 use Rattle.figure.specs.declared.rates.Rate.{Rate}
-use Rattle.figure.specs.declared.rates.Shares.{Shares}
-use Rattle.figure.specs.inner.Rates.{rate_of, shares_at, formula_load}
+use Rattle.figure.specs.inner.Rates.{rate_of}
+use Rattle.figure.specs.inner.Shared.{formula_load}
 use Rattle.figure.proofs.ByRate.{by, Sure, Small, formula_small, formula_by}
 use Rattle.figure.proofs.rates.formula_load.Goals as goal
 use Rattle.figure.proofs.rates.formula_load.Goals.{Start}
 
 rate : (s : Start) → s.args.shares.formula ≡ rate_of s.args.shares.floors s.args.shares.influence
-unfolding shares_at
-rate s = ap (λ (t : Shares). t.formula) s.requires.2
+rate s = s.args.shares.formula_is
 
 rate_small : (s : Start) → Small s.args.shares.formula
 rate_small s = subst⁻¹ Small (rate s) (formula_small s.args.shares.floors s.args.shares.influence)

@@ -9,14 +9,14 @@ use Rattle.reduction.proofs.Fits.{formula_load_lem}
 use Rattle.column.specs.Line.{unpacked}
 use Rattle.column.specs.inner.Sound.{InLimits}
 use Rattle.figure.specs.Carried.{is_formula_line}
-use Rattle.figure.specs.inner.Rates.{figure_by}
+use Rattle.figure.specs.inner.Shared.{figure_by}
 use Rattle.figure.proofs.ByRate.{twentieths_small, figure_formula, figure_other}
 use Rattle.figure.proofs.rates.line_figure.Goals as goal
 use Rattle.figure.proofs.rates.line_figure.Goals.{After-formula_load, After-line_of-line, After-other_times, Else-is_formula, Then-is_formula}
 
 -- the line, and whether it is a formula line
 line_known : (c : After-line_of-line) → InLimits c.line_of-line.result
-line_known c = rw c.line_of-line.ensures c.requires.0
+line_known c = rw c.line_of-line.ensures c.requires
 
 formula : (c : Then-is_formula) → is_formula_line c.line_of-line.result ≡ true
 formula c = rw c.line_of-line.ensures (sym c.is_formula.ensures ∙ c.if-is_formula.true)
@@ -27,7 +27,7 @@ other c = rw c.line_of-line.ensures (sym c.is_formula.ensures ∙ c.if-is_formul
 pub formula_load-requires : goal.formula_load-requires
 unfolding is_formula_line
 formula_load-requires c =
-    ((line_known (goal.at.formula_load-requires c).After-line_of-line).load.0, formula_load_lem _ _ (formula (goal.at.formula_load-requires c).Then-is_formula), c.requires.1)
+    ((line_known (goal.at.formula_load-requires c).After-line_of-line).load.0, formula_load_lem _ _ (formula (goal.at.formula_load-requires c).Then-is_formula))
 
 -- both products are the line's figure
 first : (c : After-formula_load)

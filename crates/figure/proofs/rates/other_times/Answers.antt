@@ -2,18 +2,16 @@
 use mathlib.Core.Path.{sym, ◌∙◌, ap}
 use Prim.Native.Nat.{ℕ}
 use native.Mathlib.Omega.{arith}
-use Rattle.figure.specs.declared.rates.Shares.{Shares}
-use Rattle.figure.specs.inner.Rates.{twentieths_rate, shares_at}
+use Rattle.figure.specs.inner.Rates.{twentieths_rate}
 use Rattle.figure.proofs.ByRate.{key_other, key_assembly}
 use Rattle.figure.proofs.rates.other_times.Goals as goal
 
 pub returns-then-key_of-lt-ASSEMBLY_FIRST : goal.returns-then-key_of-lt-ASSEMBLY_FIRST
-unfolding shares_at
 returns-then-key_of-lt-ASSEMBLY_FIRST c =
-    ap (λ (t : Shares). t.other) c.requires.1
-    ∙ ap (λ (k : ℕ). (twentieths_rate k).times) (sym (key_other c.args.number c.requires.0 c.args.shares.floors (omega (arith, c.key_of.ensures))))
+    c.args.shares.other_is
+    ∙ ap (λ (k : ℕ). (twentieths_rate k).times) (sym (key_other c.args.number c.requires c.args.shares.floors (omega (arith, c.key_of.ensures))))
 
 pub returns : goal.returns
 unfolding twentieths_rate
 returns c =
-    rw (key_assembly c.args.number c.requires.0 c.args.shares.floors (omega (arith, c.key_of.ensures)))
+    rw (key_assembly c.args.number c.requires c.args.shares.floors (omega (arith, c.key_of.ensures)))

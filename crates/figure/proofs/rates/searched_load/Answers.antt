@@ -6,7 +6,7 @@ use Rattle.member.proofs.Tests.{in_limits}
 use native.Mathlib.Omega.{arith}
 use Rattle.reduction.specs.Reduced.{reduced_of}
 use Rattle.reduction.proofs.Reduced.{reduced_known}
-use Rattle.figure.specs.inner.Rates.{formula_load}
+use Rattle.figure.specs.inner.Shared.{formula_load}
 use Rattle.figure.proofs.rates.searched_load.Goals as goal
 use Rattle.figure.proofs.rates.searched_load.Goals.{Start}
 

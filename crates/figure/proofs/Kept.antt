@@ -2,38 +2,32 @@
 -- Assumes nothing.
 use Rattle.std.specs.Prelude.{Option, None, Some, IsSome}
 use Rattle.std.specs.Option.{option_eq}
-use mathlib.Core.Path.{◌≡◌, refl, sym, ◌∙◌, ap, fun_ext, subst⁻¹}
+use mathlib.Core.Path.{◌≡◌, refl, sym, ◌∙◌, ap, fun_ext}
 use mathlib.Core.Bool.{Bool, true, cond, false≢true}
 use Prim.Native.Nat.{ℕ, ◌≤◌}
 use native.Mathlib.Omega.{arith}
 use lib.Dec.{eqb}
 use borrow.Author.Tests.{lt-leb, eqb-true}
 use Rattle.lists.proofs.Tests.{cases}
-use Rattle.reduction.specs.declared.InfluenceArea.{InfluenceArea}
 use Rattle.reduction.specs.declared.share.Share.TheVariants.{Twentieths}
 use Rattle.reduction.specs.Share.{one_floor, other_twentieths, share_of}
 use Rattle.reduction.proofs.Twentieths.{share_other, share_clamped}
 use Rattle.column.specs.declared.Line.{Line}
-use Rattle.figure.specs.declared.rates.Shares.{Shares}
+use Rattle.figure.specs.declared.shares.Shares.{Shares}
 use Rattle.figure.specs.Carried.{is_formula_line}
 use Rattle.figure.specs.Figure.{line_figure}
-use Rattle.figure.specs.inner.Rates.{shares_at, Shared, figure_by}
-
--- shares that are those of some n and X
-pub shared_at : (n : ℕ) (x : InfluenceArea) {s : Shares} → s ≡ shares_at n x → Shared s
-unfolding shares_at
-shared_at n x e = subst⁻¹ Shared e refl
+use Rattle.figure.specs.inner.Shared.{figure_by}
 
 other_below : (class n : ℕ) → 2 ≤ n → other_twentieths class n ≡ other_twentieths class 2
 unfolding other_twentieths one_floor
 other_below class n h = rw (lt-leb n 1 h)
 
 -- from the second floor on, where the formula lines' share is clamped, a line's share has neither n nor X
-share_below : (s : Shares) (l : Line) {k : ℕ} → Shared s → 2 ≤ s.floors → s.clamped ≡ Some k
+share_below : (s : Shares) (l : Line) {k : ℕ} → 2 ≤ s.floors → s.clamped ≡ Some k
     → share_of l.load l.class s.floors s.influence ≡ Twentieths (cond (is_formula_line l) k (other_twentieths l.class 2))
-unfolding shares_at is_formula_line
-share_below s l {k} shared h some =
-    let clamped = sym (ap (λ (t : Shares). t.clamped) shared) ∙ some in
+unfolding is_formula_line
+share_below s l {k} h some =
+    let clamped = sym s.clamped_is ∙ some in
     cases (λ (b : Bool). share_of l.load l.class s.floors s.influence ≡ Twentieths (cond b k (other_twentieths l.class 2))) (is_formula_line l)
     (λ q. share_clamped l.load l.class s.floors s.influence q clamped)
     (λ q. share_other l.load l.class s.floors s.influence q ∙ ap Twentieths (other_below l.class s.floors h))
@@ -44,9 +38,9 @@ both None (Some k) h e = absurd (false≢true e)
 both a None h e = absurd (false≢true h)
 
 -- so where it is clamped alike, the figure of each line stays
-pub figure_kept : (s t : Shares) → Shared s → Shared t → 2 ≤ s.floors → s.floors ≤ t.floors
+pub figure_kept : (s t : Shares) → 2 ≤ s.floors → s.floors ≤ t.floors
     → IsSome t.clamped → option_eq eqb s.clamped t.clamped ≡ true → figure_by s ≡ figure_by t
 unfolding line_figure
-figure_kept s t h k two more some alike =
+figure_kept s t two more some alike =
     let (at, before, here) = both s.clamped t.clamped some alike in
-    fun_ext (λ l. rw (share_below s l h two before, share_below t l k (omega arith) here))
+    fun_ext (λ l. rw (share_below s l two before, share_below t l (omega arith) here))
