@@ -7,7 +7,7 @@ use Rattle.std.specs.List.{All as Each}
 use Rattle.std.specs.List.Sorted.{IsPartitionedBy}
 use Rattle.std.proofs.lemmas.List.{take-append-drop, map-append, take_more}
 use Rattle.std.proofs.lemmas.List.Elements.{All-take, All-drop}
-use Rattle.std.proofs.lemmas.List.Sums.{sum_by-cons, sum_by-le}
+use Rattle.std.proofs.lemmas.List.Sums.{sum_by-cons, sum_by-le, sum_by_more}
 use Rattle.lists.specs.Lists.{All, none, more, total}
 use Rattle.lists.proofs.Tests.{cases}
 use Rattle.lists.proofs.Lists.{all_first, all_rest}
@@ -82,3 +82,10 @@ areas_most ns h = omega (arith, h.0, sum_by-le (λ n. formula_area (unpacked n))
 
 pub figures_most : (s : Shares) (ns : List ℕ) → Lined ns → figures s ns ≤ 2560000000000
 figures_most s ns h = omega (arith, h.0, sum_by-le (λ n. figure_by s (unpacked n)) 10000000000 ns (λ k d q. line_most s.floors s.influence _ (h.1 k d q)))
+
+-- one line more
+pub figures_more : (s : Shares) (ns : List ℕ) (i : ℕ) → Lined ns → i < length ns
+    → (figures s (take (i + 1) ns) ≡ figures s (take i ns) + figure_by s (line_at ns i)) × (figures s (take i ns) + figure_by s (line_at ns i) ≤ 2560000000000)
+figures_more s ns i h k =
+    let more = sum_by_more (λ n. figure_by s (unpacked n)) ns i 0 k in
+    (more, omega (arith, more, figures_most s (take (i + 1) ns) (lined_take (i + 1) ns h)))

@@ -30,14 +30,15 @@ pub fn area_of(lines: &[u64]) -> TributaryArea
     TributaryArea(lines.iter().map(|line| formula_area(*line)).sum())
 }
 
-// The sum of R × area.
-#[tactic(auto, using(crate::proofs::HeldLines::figures_most))]
+// The sum of R × area. By the sum of an iterator asking 256 lines takes a twelfth longer, and misses its bar.
+#[tactic(auto, using(crate::proofs::HeldLines::figures_more))]
 pub fn figure_of(lines: &[u64], shares: Shares) -> u64
     requires { Lined lines.now }
     ensures { result ≡ figures shares lines.now }
 {
-    lines
-        .iter()
-        .map(|line| rates::line_figure(*line, shares))
-        .sum()
+    let mut figure: u64 = 0;
+    for line in lines {
+        figure += rates::line_figure(*line, shares);
+    }
+    figure
 }
