@@ -16,13 +16,13 @@ use Rattle.text.specs.Text.{minus, decimal, signed_decimal}
 use Rattle.text.proofs.Decimal.{length_some, decimal_all}
 use Rattle.text.proofs.Sign.{signed_pos, signed_neg}
 use Rattle.newtons.specs.Effect.{signed}
-use Rattle.std.specs.Prelude.{Option, Some, None}
+use Rattle.std.specs.Prelude.{Option, Some, None, option_map}
 use Rattle.sheet_lines.specs.declared.Due.{Due}
 use Rattle.sheet_lines.specs.declared.Due.TheVariants as D
 use Rattle.sheet_lines.specs.declared.Form.{Form}
 use Rattle.sheet_lines.specs.declared.Form.TheVariants as F
 use Rattle.sheet_lines.specs.Number.{number_at, begins}
-use Rattle.sheet_lines.specs.Form.{member_keys, floor_keys, effect_keys, effect_count, with_number, fields_from, form_by, member_form, line_from, floor_form, effect_end, effect_form, is_floor, later_form, form_of}
+use Rattle.sheet_lines.specs.Form.{member_keys, floor_keys, effect_keys, effect_count, with_number, fields_from, member_form, line_from, floor_form, effect_end, effect_form, is_floor, later_form, form_of}
 use Rattle.sheet_lines.specs.LineText.{line_numbers, fields_text, member_text, floor_text, effect_text}
 use Rattle.sheet_lines.specs.theorems.Says.{key_at, as_written, Says, member, floor, effect}
 use Rattle.sheet_lines.proofs.AtPlace.{either, begins_from, begins_to}
@@ -38,11 +38,10 @@ pub data Read (due : Due) (l : List ℕ) (o : Option Form) : Type 0 where
 
 -- a line that is read by some keys has the text of numbers, one to a key
 by_keys : {due : Due} (keys : List (List ℕ)) (l : List ℕ) (form : List ℕ → Form)
-    → ((ns : List ℕ) → length ns ≡ length keys → l ≡ fields_text keys ns → Says due l (form ns)) → Read due l (form_by (fields_from [] keys l 0) form)
-unfolding form_by
+    → ((ns : List ℕ) → length ns ≡ length keys → l ≡ fields_text keys ns → Says due l (form ns)) → Read due l (option_map form (fields_from [] keys l 0))
 by_keys {due} keys l form k = go (fields_from [] keys l 0) refl
   where
-    go : (o : Option (List ℕ)) → fields_from [] keys l 0 ≡ o → Read due l (form_by o form)
+    go : (o : Option (List ℕ)) → fields_from [] keys l 0 ≡ o → Read due l (option_map form o)
     go None e = malformed refl
     go (Some ns) e = let r = fields_from_lem keys [] l 0 ns e in says (form ns) refl (k ns (ap length r.all ∙ r.each) (r.text ∙ ap (fields_text keys) (sym r.all)))
 
@@ -125,8 +124,7 @@ ShortForm (F.Floor x) = All Short (line_numbers x)
 ShortForm (F.Effect k z) = Short (nat_abs z)
 
 keys_to : (keys : List (List ℕ)) (ns : List ℕ) (form : List ℕ → Form) → low_after keys ≡ true → All Short ns → length ns ≡ length keys
-    → form_by (fields_from [] keys (fields_text keys ns) 0) form ≡ Some (form ns)
-unfolding form_by
+    → option_map form (fields_from [] keys (fields_text keys ns) 0) ≡ Some (form ns)
 keys_to keys ns form h a q = rw (fields_to keys ns [] (fields_text keys ns) 0 h a q (omega arith) refl)
 
 end_to : (k : ℕ) (l : List ℕ) (at : ℕ) (negative : Bool) (n : ℕ) → Short n → drop at l ≡ decimal n → negative && eqb n 0 ≡ false

@@ -1,6 +1,6 @@
 -- Paper 01, "The sheet": the form of each line, given without its newline.
 -- Assumes nothing.
-use Rattle.std.specs.Prelude.{Bool, true, false, cond, ◌&&◌, List, [], ◌∷◌, ◌++◌, ℕ, ◌+◌, eqb, ltb, length, drop, get_or, Option, Some, None}
+use Rattle.std.specs.Prelude.{Bool, true, false, cond, ◌&&◌, List, [], ◌∷◌, ◌++◌, ℕ, ◌+◌, eqb, ltb, length, drop, get_or, Option, Some, None, option_map}
 use Rattle.refusal.specs.Refusal.{number_of}
 use Rattle.refusal.specs.declared.Refusal.TheVariants.{SheetMalformed}
 use Rattle.refusal.specs.Said.{Said, gives, refused, nothing}
@@ -41,14 +41,9 @@ unfoldable pub fields_from : List ℕ → List (List ℕ) → List ℕ → ℕ �
 fields_from done [] l at = cond (eqb at (length l)) (Some done) None
 fields_from done (key ∷ keys) l at = with_number None (field_at key l at) λ n next. fields_from (done ++ (n ∷ [])) keys l next
 
--- 01, The sheet: what the numbers of a line say; without them it has not the form
-unfoldable pub form_by : Option (List ℕ) → (List ℕ → Form) → Option Form
-form_by (Some ns) form = Some (form ns)
-form_by None form = None
-
 -- 01, The sheet: `member`
 unfoldable pub member_form : List ℕ → Option Form
-member_form l = form_by (fields_from [] member_keys l 0) λ ns. Member (get_or ns 0 0)
+member_form l = option_map (λ ns. Member (get_or ns 0 0)) (fields_from [] member_keys l 0)
 
 -- 01, Member, line, floor: the line of "four decimal numbers"
 unfoldable pub line_from : List ℕ → Line
@@ -56,7 +51,7 @@ line_from ns = line (get_or ns 0 0) (get_or ns 1 0) (get_or ns 2 0) (get_or ns 3
 
 -- 01, The sheet: a floor line
 unfoldable pub floor_form : List ℕ → Option Form
-floor_form l = form_by (fields_from [] floor_keys l 0) λ ns. Floor (line_from ns)
+floor_form l = option_map (λ ns. Floor (line_from ns)) (fields_from [] floor_keys l 0)
 
 -- 01, The sheet: the number that ends a line; a minus sign stands "never before 0"
 unfoldable pub effect_end : ℕ → List ℕ → ℕ → Bool → Option Form

@@ -52,7 +52,7 @@ fn read_fields<const N: usize>(line: &[u8], keys: &[&[u8]]) -> Option<[u64; N]>
 }
 
 // A line `member=` and a code.
-#[tactic(auto, unfolding(crate::specs::Form::member_form, crate::specs::Form::member_keys, crate::specs::Form::form_by))]
+#[tactic(auto, unfolding(crate::specs::Form::member_form, crate::specs::Form::member_keys))]
 fn member_form(line: &[u8]) -> Option<Form>
     ensures { result ≡ member_form line.now }
 {
@@ -61,7 +61,7 @@ fn member_form(line: &[u8]) -> Option<Form>
 }
 
 // A line with the numbers of a floor line, each after its key.
-#[tactic(auto, unfolding(crate::specs::Form::floor_form, crate::specs::Form::floor_keys, crate::specs::Form::form_by, crate::specs::Form::line_from))]
+#[tactic(auto, unfolding(crate::specs::Form::floor_form, crate::specs::Form::floor_keys, crate::specs::Form::line_from))]
 fn floor_form(line: &[u8]) -> Option<Form>
     ensures { result ≡ floor_form line.now }
 {
