@@ -13,7 +13,7 @@ mod takedown;
 pub const ROOM: usize = 4096;
 
 // What reporting gives: the number of the refusal, 0 where the sheet is read; the line K; and how many
-// bytes were put, 0 where the sheet is refused.
+// bytes were put, 0 where the sheet is refused. The C interface hands it out, and K is told in both cases.
 #[repr(C)]
 #[derive(Clone, Copy)]
 pub struct Reported {
@@ -38,13 +38,11 @@ pub fn report(text: &[u8], out: &mut [u8; ROOM]) -> Reported
             length: 0,
         };
     }
-    let member = reading.sheet.column.member;
-    let count = reading.sheet.column.count;
-    let effects = reading.sheet.effects;
+    let column = reading.sheet.column.lend();
     Reported {
         number: reading.number,
         line: reading.line,
-        length: takedown::put_takedown(out, &reading.sheet.column.held, member, count, effects),
+        length: takedown::put_takedown(out, column, reading.sheet.effects),
     }
 }
 

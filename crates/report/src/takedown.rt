@@ -5,39 +5,36 @@ ghost use Rattle.newtons.specs.Effect.{limit};
 ghost use Rattle.effects.specs.Check.{newtons_of};
 ghost use Rattle.combination.specs.Combine.{governing};
 ghost use Rattle.column.specs.Line.{lowest_floor};
-ghost use Rattle.sheet.specs.Keeps.{EffectsWithin, Keeps};
+ghost use Rattle.column.specs.Seen.{column_seen};
+ghost use Rattle.sheet.specs.Keeps.{EffectsWithin};
 ghost use Rattle.report.specs.Report.{effects_with, governing_lines, takedown_of};
-ghost use Rattle.column.specs.Column.{column_from};
 ghost use Rattle.report.specs.inner.Table.{sheet_from, line_of, table_lines};
 
 use crate::lines;
-use column::{ColumnRef, Member, Places};
+use column::ColumnRef;
 use effects::Newtons;
 use figure::{FLOORS, Table, Working};
 use sheet_lines::EFFECTS;
+use text::Output;
 
 // Puts the line of a floor, and nothing where no line has that floor.
-#[tactic(auto, unfolding(crate::specs::inner::Table::line_of, text::specs::Put::puts))]
-fn put_floor(to: &mut [u8], at: usize, floor: u64, working: Option<Working>) -> usize
-    ensures { out to.new result ≡ puts to.old at (line_of floor working) }
+fn put_floor(output: &mut Output, floor: u64, working: Option<Working>)
+    ensures same_buffer { output.new.buffer.ghost_name ≡ output.old.buffer.ghost_name }
+    ensures put { out output.new.buffer.now output.new.at ≡ puts output.old.buffer.now output.old.at (line_of floor working) }
 {
-    match working {
-        Some(working) => lines::put_floor_line(to, at, floor, working),
-        None => at,
+    if let Some(working) = working {
+        lines::put_floor_line(output, floor, working);
     }
 }
 
 // Puts the lines of all floors, top first.
-fn put_floors(to: &mut [u8], table: &Table) -> usize
-    ensures { out to.new result ≡ puts to.old 0 (table_lines table.now lowest_floor) }
+fn put_floors(output: &mut Output, table: &Table)
+    ensures same_buffer { output.new.buffer.ghost_name ≡ output.old.buffer.ghost_name }
+    ensures put { out output.new.buffer.now output.new.at ≡ puts output.old.buffer.now output.old.at (table_lines table.now lowest_floor) }
 {
-    let mut at = 0;
-    let mut floor = 0;
-    for working in table {
-        floor += 1;
-        at = put_floor(to, at, floor, *working);
+    for (above, working) in table.iter().enumerate() {
+        put_floor(output, above as u64 + 1, *working);
     }
-    at
 }
 
 // A figure in whole newtons, rounded up.
@@ -53,51 +50,50 @@ fn newtons_with(effects: [i64; EFFECTS], live: u64) -> Newtons
     requires { EffectsWithin effects × (live ≤ limit) }
     ensures { result ≡ effects_with effects live }
 {
+    let [dead, roof, snow, rain, wind, quake] = effects;
     Newtons {
-        dead: effects[0],
+        dead,
         live: live as i64,
-        roof: effects[1],
-        snow: effects[2],
-        rain: effects[3],
-        wind: effects[4],
-        quake: effects[5],
+        roof,
+        snow,
+        rain,
+        wind,
+        quake,
     }
 }
 
 // Puts the lines of the greatest and the least sum. The effects are within the limit, so none is
 // refused.
-fn put_governing(to: &mut [u8], at: usize, effects: [i64; EFFECTS], live: u64) -> usize
+fn put_governing(output: &mut Output, effects: [i64; EFFECTS], live: u64)
     requires { EffectsWithin effects × (live ≤ limit) }
-    ensures { out to.new result ≡ puts to.old at (governing_lines (governing (newtons_of (effects_with effects live)))) }
+    ensures same_buffer { output.new.buffer.ghost_name ≡ output.old.buffer.ghost_name }
+    ensures put { out output.new.buffer.now output.new.at ≡ puts output.old.buffer.now output.old.at (governing_lines (governing (newtons_of (effects_with effects live)))) }
 {
-    match combination::govern(newtons_with(effects, live)) {
-        Ok(governing) => {
-            let next = lines::put_governing_line(to, at, b"max=", governing.greatest);
-            lines::put_governing_line(to, next, b"min=", governing.least)
-        }
-        Err(_) => at,
-    }
+    let Ok(governing) = combination::govern(newtons_with(effects, live)) else {
+        unreachable!()
+    };
+    lines::put_governing_line(output, b"max=", governing.greatest);
+    lines::put_governing_line(output, b"min=", governing.least);
 }
 
-// Puts all that is printed of a sheet, whose column is lent in its parts.
-pub fn put_takedown(
-    to: &mut [u8],
-    held: &Places,
-    member: Member,
-    count: u16,
-    effects: [i64; EFFECTS],
-) -> usize
-    requires { Keeps (sheet_from (column_from member count held.now) effects) }
-    ensures { out to.new result ≡ puts to.old 0 (takedown_of (sheet_from (column_from member count held.now) effects)) }
+// Puts all that is printed of the sheet of a column and six effects.
+fn put_all(output: &mut Output, column: ColumnRef<'_>, effects: [i64; EFFECTS])
+    requires { EffectsWithin effects }
+    ensures same_buffer { output.new.buffer.ghost_name ≡ output.old.buffer.ghost_name }
+    ensures put { out output.new.buffer.now output.new.at ≡ puts output.old.buffer.now output.old.at (takedown_of (sheet_from (column_seen column.entry) effects)) }
 {
-    let column = ColumnRef {
-        member,
-        count,
-        held,
-    };
     let mut table = [None; FLOORS];
     let lowest = figure::work_out(column, &mut table);
-    let live = live_effect(lowest);
-    let next = put_floors(to, &table);
-    put_governing(to, next, effects, live)
+    put_floors(output, &table);
+    put_governing(output, effects, live_effect(lowest));
+}
+
+// The same at the front of a buffer.
+pub fn put_takedown(to: &mut [u8], column: ColumnRef<'_>, effects: [i64; EFFECTS]) -> usize
+    requires { EffectsWithin effects }
+    ensures { out to.new result ≡ puts to.old 0 (takedown_of (sheet_from (column_seen column.entry) effects)) }
+{
+    let mut output = Output { buffer: to, at: 0 };
+    put_all(&mut output, column, effects);
+    output.at
 }

@@ -13,7 +13,7 @@ use Rattle.report.proofs.Lengths.{takedown_most}
 use Rattle.report.proofs.Prints.{put_read, put_refused, reported}
 use borrow.Author.Rules.{rules}
 use Rattle.report.proofs.report.Goals as goal
-use Rattle.report.proofs.report.Goals.{After-put_takedown, After-put_takedown-arg-2-1}
+use Rattle.report.proofs.report.Goals.{After-put_takedown, Else-is_refused}
 
 pub returns-then-is_refused : goal.returns-then-is_refused
 unfolding fronted
@@ -26,11 +26,14 @@ returns-then-is_refused c =
       prefix_len = (omega arith, refl);
     }
 
-keeps : (c : After-put_takedown-arg-2-1) → Keeps c.read-reading.result.sheet
+keeps : (c : Else-is_refused) → Keeps c.read-reading.result.sheet
 keeps c = c.read-reading.ensures.1 (omega (arith, c.if-is_refused.false))
 
+pub lend-column-requires : goal.lend-column-requires
+lend-column-requires c = (keeps (goal.at.lend-column-requires c).Else-is_refused).column
+
 pub put_takedown-requires : goal.put_takedown-requires
-put_takedown-requires c = keeps (goal.at.put_takedown-requires c).After-put_takedown-arg-2-1
+put_takedown-requires c = (keeps (goal.at.put_takedown-requires c).Else-is_refused).effects
 
 -- the take-down is put, and finds room
 whole : (c : After-put_takedown)
@@ -39,8 +42,9 @@ whole : (c : After-put_takedown)
 whole c =
     let sheet = c.read-reading.result.sheet in
     let size : 4096 ≤ length c.args.out.now = search rules in
-    let most = takedown_most sheet (keeps (goal.at.After-put_takedown c).After-put_takedown-arg-2-1) in
-    puts_front (takedown_of sheet) c.put_takedown.ensures (omega (arith, most))
+    let most = takedown_most sheet (keeps (goal.at.After-put_takedown c).Else-is_refused) in
+    let put = rw c.lend-column.ensures at c.put_takedown.ensures in
+    puts_front (takedown_of sheet) put (omega (arith, most))
 
 pub returns : goal.returns
 returns c =

@@ -1,6 +1,5 @@
 -- `report::takedown::put_floors` meets its contract: the loop has put the lines of the floors so far. Assumes nothing.
-use mathlib.Core.Path.{◌≡◌, refl}
-use Prim.Native.Nat.{suc, ◌+◌}
+use mathlib.Core.Path.{◌≡◌, refl, ◌∙◌}
 use native.Mathlib.Numerals.{add-one}
 use native.Mathlib.Omega.{arith}
 use Rattle.text.specs.Put.{puts}
@@ -8,18 +7,20 @@ use Rattle.text.proofs.Puts.{puts_then}
 use Rattle.report.specs.inner.Table.{table_lines}
 use Rattle.report.proofs.takedown.put_floors.Goals as goal
 
-pub loop-working-init : goal.loop-working-init
+pub loop-above-init : goal.loop-above-init
 unfolding table_lines puts
-loop-working-init c = (refl, refl)
+loop-above-init c = record { same_buffer = refl; put = refl }
 
-pub loop-working-preserved : goal.loop-working-preserved
+pub loop-above-preserved : goal.loop-above-preserved
 unfolding table_lines
-loop-working-preserved c =
-    let now = c.loop-working in
-    let floor : now.floor + 1 ≡ suc now.working-index = omega (arith, now.invariant.0) in
-    (omega (arith, now.invariant.0), rw (add-one now.working-index) (puts_then _ _ _ _ now.invariant.1 (rw floor at c.put_floor-at.ensures)))
+loop-above-preserved c =
+    let now = c.loop-above in
+    record {
+      same_buffer = c.put_floor.ensures.same_buffer ∙ now.invariant.same_buffer;
+      put = rw (add-one now.above) (puts_then _ _ _ _ now.invariant.put (rw (add-one now.above) at c.put_floor.ensures.put));
+    }
 
-pub returns : goal.returns
-returns c =
-    let all : c.loop-working.working-index ≡ 64 = omega arith in
-    rw all at c.loop-working.invariant.1
+pub returns-clause-put : goal.returns-clause-put
+returns-clause-put c =
+    let all : c.loop-above.above ≡ 64 = omega arith in
+    rw all at c.loop-above.invariant.put

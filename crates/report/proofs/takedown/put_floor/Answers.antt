@@ -1,0 +1,22 @@
+-- `report::takedown::put_floor` meets its contract: nothing is put where no line has the floor. Assumes nothing.
+use mathlib.Core.Path.{◌≡◌, refl}
+use mathlib.Core.List.{[]}
+use Prim.Native.Nat.{ℕ}
+use Rattle.std.specs.Prelude.{Option, Some, None}
+use Rattle.text.specs.Put.{puts}
+use Rattle.figure.specs.declared.Working.{Working}
+use Rattle.report.specs.inner.Table.{line_of}
+use Rattle.report.proofs.takedown.put_floor.Goals as goal
+
+no_line : (f : ℕ) (o : Option Working) → ((w : Working) → o ≡ Some w → ⊥) → line_of f o ≡ []
+unfolding line_of
+no_line f (Some w) h = absurd (h w refl)
+no_line f None h = refl
+
+pub returns-in-Some-clause-put : goal.returns-in-Some-clause-put
+unfolding line_of
+returns-in-Some-clause-put c = rw c.in-Some.is c.put_floor_line.ensures.put
+
+pub returns-in_default-clause-put : goal.returns-in_default-clause-put
+unfolding puts
+returns-in_default-clause-put c = rw (no_line c.args.floor c.args.working c.in_default.not-Some)
