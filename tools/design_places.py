@@ -438,7 +438,8 @@ def point8(listed):
 
 MAKES = "makes a value of several, and converts none"
 RULE = "a rule of the paper or of the form, no order of a type"
-# The hits of each point that are no places of it, by path or by what stands in backticks, with the reason.
+ITS_CASES = "each case has values of its own"
+# The hits of each point that are no places of it, by path, by all that is printed, or by what stands in backticks.
 NO_PLACE = {
     "1": {
         "reduction::share::Share": "both cases are shares",
@@ -465,8 +466,17 @@ NO_PLACE = {
         "sheet_lines::effect_form": "the place is an index, of an array and of a key",
         "sheet_lines::is_floor": "the place is an index, of an array and of a key",
         "sheet_lines::later_form": "the place is an index, of an array and of a key",
-        "trial_combination::answer_combine": "the library's Option of a slice",
         "trial_combination::answer_all": "the library's Option of a slice",
+        "trial::answer_all": "the library's Option of a slice",
+        "trial::questions::Question": ITS_CASES,
+        "trial_combination::print::Answer": ITS_CASES,
+        "sheet_lines::Form: enum of Member(u64), Floor(Line), Effect{ place: usize, newtons: i64 }": ITS_CASES,
+        "exports::changes::bungero_enter": "takes any number and answers it",
+        "exports::sheets::bungero_write": "what it gives is counted",
+        "error_bound::note": "the first one stays the first",
+        "figure::sums::formula_area": "0 is the area",
+        "reduction::rounding::raised": "the last number is one too",
+        "trial::columns::new": "says that it cannot be",
     },
     "2": {
         "column::enter_in": "what is alike is that they call two functions",
@@ -476,6 +486,17 @@ NO_PLACE = {
         "sheet_writer::lines::put_line": "the effects have signs, and a line each",
         "trial_combination::print::write_whole": "what is alike is that they write two things",
         "sheet_lines::Due": "what is due, and what came",
+        "column::changing::enter": "one calls the other",
+        "column::changing::open": "one calls the other",
+        "column::changing::paste": "one calls the other",
+        "column::lent::ColumnRef": "a column, and one that is lent",
+        "column::Line": "what is alike is two names",
+        "exports::changes::unopened": "what is alike is that they have no lines",
+        "figure::any_order::floors_marked": "one marks, one compares with the line before",
+        "sheet::steps::open_member: fn like sheet::steps::enter_line, trial::columns::open": "lines of other kinds",
+        "sheet_writer::lengths::lines_length": "sums of other things",
+        "trial_combination::print::fmt": "printing of other types",
+        "trial::print::fmt": "printing of other types",
         "reduction::rounding::UNIT": "units of other scales",
         "report::ROOM": "rooms for other things",
     },
@@ -484,6 +505,8 @@ NO_PLACE = {
         "input::read_from": "a step takes as many bytes as come",
         "sheet_writer::lengths::decimal_length": "no index; it is in point 4",
         "trial_sheet::answer_all": "a step takes as many bytes as the text says",
+        "column::in_place::paste": "takes four numbers off a slice by a pattern",
+        "error_bound::enter_all": "takes four numbers off a slice by a pattern",
     },
     "4": {
         "column::open": MAKES,
@@ -496,6 +519,15 @@ NO_PLACE = {
         "trial_combination::doubles::effects_from": MAKES,
         "trial_combination::doubles::newtons_from": MAKES,
         "sheet_writer::write": MAKES,
+        "sheet::read": MAKES,
+        "error_bound::figure_after": MAKES,
+        "figure::descent::next_floor": MAKES,
+        "figure::rates::shares_at": MAKES,
+        "trial::print::print_after": "printing, whose format has 0 for none",
+        "effects::of": "a part of a value, by its name",
+        "effects::place: conversion to u64 by a cast": "the discriminant",
+        "refusal::number: conversion to u64 by a cast": "the discriminant",
+        "exports::checks::from": "a From",
         "figure::rates::searched_load": "it is in point 1",
         "newtons::whole_of": "it checks",
         "member::is_formula": RULE,
@@ -506,6 +538,7 @@ NO_PLACE = {
         "sheet::steps::is_complete": RULE,
     },
     "5": {
+        "IfOk": "says other things of other results",
         "places : List ℕ": "a clause for all places, of things that share none",
         "class: u64, load: u64": "numbers as a caller hands them over; each goes alone too",
         "class: u64, floors: u64": "numbers as a caller hands them over; each goes alone too",
@@ -513,6 +546,8 @@ NO_PLACE = {
     "6": {
         "combination::search::FACTORS": "rows of a table",
         "figure::rates::Shares": "how many floors there are is what it says",
+        "figure::shares::Shares": "how many floors there are is what it says",
+        "reduction::Carried": "how many floors there are is what it says",
         "sheet_lines::effect_form": "the place is that of an effect on the sheet",
         "sheet_lines::is_floor": "the place is that of an effect on the sheet",
         "sheet_lines::later_form": "the place is that of an effect on the sheet",
@@ -525,7 +560,9 @@ NO_PLACE = {
             sheet_writer::write
             trial::answer trial::print::print_answer trial::print::print_working trial_combination::print::print_effect
             trial_combination::print::write_effect trial_combination::print::print_combined
-            trial_combination::print::print_governed""".split(),
+            trial_combination::print::print_governed reduction::class::try_from trial::answer_all trial::print::fmt
+            trial::questions::question_of trial_combination::answer_of trial_combination::doubles::digit
+            trial_combination::print::fmt""".split(),
             "a match on what there is, whose cases have values of their own",
         ),
     },
@@ -541,7 +578,7 @@ def show(point, listed):
         return
     places, others = [], []
     for item, what in POINTS[point]():
-        said = (item.path(), *re.findall("`([^`]+)`", what))
+        said = (item.path(), f"{item.path()}: {what}", *re.findall("`([^`]+)`", what))
         why = next((why for name, why in NO_PLACE[point].items() if name in said), "")
         line = f"{item.where()}: {item.path()}: {what}"
         (others if why else places).append(line + (f" -- no place: {why}" if why else ""))
