@@ -23,7 +23,7 @@ use Rattle.column.specs.Column.{column_of, opened_of, entered_of, after}
 use Rattle.column.proofs.Entries.{entry_at, entries_first, entries_few}
 use Rattle.column.specs.theorems.InTurn.{Holdable}
 use Rattle.column.proofs.Reach.{holdable_none, entered_column, joined_holdable, opened_column}
-use Rattle.error_bound.specs.Entries.{RefusedEntries, first_told, numbers_from, refused_count, first_number, first_place, refusals_of, refusals_after}
+use Rattle.error_bound.specs.Entries.{RefusedEntries, refusals_told, numbers_from, refused_count, first_number, first_place, refusals_of, refusals_after}
 use Rattle.error_bound.specs.inner.Counting.{numbers_on, noted_of, noted_all, no_refusals}
 
 -- one entry more: accepted, refused as the first, and refused after others
@@ -42,8 +42,8 @@ module _ (p : RefusedEntries) (n place : ℕ) where
 
 -- as it is noted
 pub noted : (n : ℕ) (first : Option (Refused ℕ)) (r : Refusal) (place : ℕ)
-    → first_told (n + 1) (Some (unwrap_or first (record { refusal = r; back = place }))) ≡ noted_of (first_told n first) (number_of r) place
-unfolding first_told
+    → refusals_told (record { count = n + 1; first = Some (unwrap_or first (record { refusal = r; back = place })) }) ≡ noted_of (refusals_told (record { count = n; first = first })) (number_of r) place
+unfolding refusals_told
 noted n None r place = noted_first (record { count = n; number = 0; place = 0 }) (number_of r) place (number_positive r) refl
 noted n (Some q) r place =
     noted_more (record { count = n; number = number_of q.refusal; place = q.back }) (number_of r) place (number_positive r) (number_positive q.refusal)

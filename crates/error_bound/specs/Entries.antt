@@ -1,7 +1,6 @@
 -- Paper 01, "Reduced load and figure": a whole list of entries at once, what asking gives after it and which were refused.
 -- Assumes nothing.
-use Rattle.std.specs.Prelude.{cond, List, [], ◌∷◌, ℕ, ◌+◌, eqb, Option, Some, None}
-use Rattle.refusal.specs.declared.Refused.{Refused}
+use Rattle.std.specs.Prelude.{cond, List, [], ◌∷◌, ℕ, ◌+◌, eqb, option_map, unwrap_or}
 use Rattle.refusal.specs.Refusal.{number_of}
 use Rattle.refusal.specs.Said.{Said, refused, nothing}
 use Rattle.column.specs.declared.Line.{Line}
@@ -58,10 +57,5 @@ unfoldable pub refusals_after : Member → List Line → RefusedEntries
 refusals_after m entries = refusals_of (cond (eqb (opened_of m).number 0) (numbers_from m [] entries) [])
 
 -- 01, Where each language form belongs: the same, read off the count and the first one
-unfoldable pub first_told : ℕ → Option (Refused ℕ) → RefusedEntries
-first_told n None = record { count = n; number = 0; place = 0 }
-first_told n (Some r) = record { count = n; number = number_of r.refusal; place = r.back }
-
--- 01, Where each language form belongs: the same of what a call tells
-abbrev pub refusals_told : Refusals → RefusedEntries
-refusals_told r = first_told r.count r.first
+unfoldable pub refusals_told : Refusals → RefusedEntries
+refusals_told r = record { count = r.count; number = unwrap_or (option_map (λ q. number_of q.refusal) r.first) 0; place = unwrap_or (option_map (λ q. q.back) r.first) 0 }

@@ -2,7 +2,7 @@
 -- told of the refused ones goes on alike. Assumes nothing.
 use Rattle.std.proofs.Common.{refl, ◌∙◌, arith, ◌+◌, ◌-◌, length, drop, length-take, length-drop}
 use Rattle.refusal.specs.Said.{number_told}
-use Rattle.error_bound.specs.Entries.{first_told, refusals_told}
+use Rattle.error_bound.specs.Entries.{refusals_told}
 use Rattle.error_bound.proofs.Counting.{noted_none, noted_all_lem, next_entry, no_entry}
 use Rattle.error_bound.proofs.enter_all.Goals as goal
 
@@ -38,7 +38,7 @@ returns-clause-column c =
     ((no_entry l.column l.rest.now (l.place + 1) (refusals_told l.refusals) c.in_default.len_below).0 ∙ l.invariant.column, l.invariant.reached)
 
 pub returns-clause-refusals : goal.returns-clause-refusals
-unfolding first_told
+unfolding refusals_told
 returns-clause-refusals c =
     let l = c.loop-rest in
     (no_entry l.column l.rest.now (l.place + 1) (refusals_told l.refusals) c.in_default.len_below).1 ∙ (l.invariant.refusals ∙ noted_all_lem _)

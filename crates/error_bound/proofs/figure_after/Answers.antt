@@ -7,7 +7,7 @@ use Rattle.column.specs.declared.Outcome.{Outcome}
 use Rattle.column.specs.Column.{member_of, opened_as, after}
 use Rattle.column.specs.Line.{entries_of}
 use Rattle.figure.specs.Asked.{asked}
-use Rattle.error_bound.specs.Entries.{refusals_of, first_told}
+use Rattle.error_bound.specs.Entries.{refusals_of, refusals_told}
 use Rattle.error_bound.specs.inner.Counting.{numbers_on}
 use Rattle.error_bound.proofs.Counting.{refusals_opened, refusals_refused}
 use Rattle.error_bound.proofs.Claim.{asked_opened, asked_refused, claim_opened, claim_refused}
@@ -41,6 +41,6 @@ returns-in-Err-clause-asked_value c =
     (asked_refused m _ _ _ h n, claim_refused m _ _ _ _ h n)
 
 pub returns-in-Err-clause-refusals_value : goal.returns-in-Err-clause-refusals_value
-unfolding opened_as first_told
+unfolding opened_as refusals_told
 returns-in-Err-clause-refusals_value c =
     refusals_refused (member_of c.args.code) (entries_of c.args.entries.now) _ (number_positive c.in-Err.refusal) (ap (λ (o : Outcome). o.number) c.in-Err.ensures.opened)
