@@ -10,7 +10,7 @@ use lib.Seq.{take_at, take_all, append_snoc}
 use Rattle.refusal.proofs.Said.{by_number, not_zero}
 use Rattle.column.specs.declared.Line.{Line}
 use Rattle.column.specs.declared.Column.{Column}
-use Rattle.column.specs.declared.Outcome.{Outcome}
+use Rattle.column.specs.Column.{Outcome}
 use Rattle.column.specs.Column.{entered_of, after, Reached}
 use Rattle.column.specs.Line.{entries_of}
 use Rattle.column.specs.Pasted.{Pasting, pasted_from, pasted_of}

@@ -14,10 +14,9 @@ use Rattle.member.proofs.Tests.{limits}
 use Rattle.column.specs.declared.Line.{Line}
 use Rattle.column.specs.declared.Member.{Member}
 use Rattle.column.specs.declared.Column.{Column}
-use Rattle.column.specs.declared.Opened.{Opened}
-use Rattle.column.specs.declared.Outcome.{Outcome}
+use Rattle.column.specs.Column.{Outcome}
 use Rattle.column.specs.Accepted.{last_floor, first_condition, entry_number, joined, accepted_from, accepted}
-use Rattle.column.specs.Column.{lines_of, column_of, unopened, opened_of, entered_of, after, Reached, opened_outcome}
+use Rattle.column.specs.Column.{lines_of, column_of, unopened, opened_of, entered_of, after, Reached}
 use Rattle.column.specs.inner.Sound.{InLimits, Sound}
 use Rattle.column.specs.theorems.InTurn.{Holdable}
 use Rattle.lists.proofs.Lists.{all_more}
@@ -199,12 +198,6 @@ unopened_not_reached r = false≢true (sound r).code
 pub reached_opened : (m : Member) → (opened_of m).number ≡ 0 → Reached (opened_of m).column
 unfolding after
 reached_opened m e = record { member = m; entries = []; opened = e; is = refl }
-
--- so where a caller has places of its own
-pub reached_empty : (m : Member) (o : Opened) → opened_outcome o ≡ opened_of m → o.number ≡ 0 → Reached (column_of o.member [])
-unfolding opened_outcome
-reached_empty m o e z =
-    subst⁻¹ Reached (ap (λ (p : Outcome). p.column) e) (reached_opened m (sym (ap (λ (p : Outcome). p.number) e) ∙ z))
 
 -- entries after others
 pub after_append : (c : Column) (es rest : List Line) → after c (es ++ rest) ≡ after (after c es) rest

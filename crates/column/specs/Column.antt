@@ -8,9 +8,6 @@ use Rattle.member.specs.Between.{between}
 use Rattle.column.specs.declared.Line.{Line}
 use Rattle.column.specs.declared.Member.{Member}
 use Rattle.column.specs.declared.Column.{Column}
-use Rattle.column.specs.declared.Outcome.{Outcome}
-use Rattle.column.specs.declared.Opened.{Opened}
-use Rattle.column.specs.declared.Joined.{Joined}
 use Rattle.column.specs.Line.{most_lines, packed, unpacked}
 use Rattle.column.specs.Accepted.{entry_number}
 
@@ -37,8 +34,13 @@ member_of code = record { code = code }
 abbrev pub unopened : Column
 unopened = column_of (member_of 0) []
 
--- 01, Numbers by the place of checking: opening a member; 1 where the code is not 1 to 12. An outcome is the number of the
--- first condition that holds, 0 where none does, and the column then
+-- 01, Numbers by the place of checking: an outcome, the number of the first condition that holds, 0 where none does, and the
+-- column then
+pub record Outcome : Type 0 where
+  pub number : ℕ
+  pub column : Column
+
+-- 01, Numbers by the place of checking: opening a member; 1 where the code is not 1 to 12
 unfoldable pub opened_of : Member → Outcome
 opened_of m =
     cond (between 1 12 m.code)
@@ -62,15 +64,6 @@ pub record Reached (c : Column) : Type 0 where
   pub entries : List Line
   pub opened : (opened_of member).number ≡ 0
   pub is : c ≡ after (opened_of member).column entries
-
--- No part of the paper: the outcome of opening where a caller has places of its own
-unfoldable pub opened_outcome : Opened → Outcome
-opened_outcome o = record { number = o.number; column = column_of o.member [] }
-
--- No part of the paper: the outcome of entering in place, which leaves the column that the member, the count and the places
--- make
-unfoldable pub joined_outcome : Member → Joined → List ℕ → Outcome
-joined_outcome m j places = record { number = j.number; column = column_from m j.count places }
 
 -- No part of the paper: the outcome of opening, where what is given stands for a column
 unfoldable pub opened_as : {A : Type 0} → (A → Column) → Result A Refusal → Outcome

@@ -5,10 +5,8 @@ use Rattle.refusal.specs.declared.Refusal.{Refusal}
 use Rattle.refusal.specs.Refusal.{number_of}
 use Rattle.column.specs.declared.in_place.PastedLines.{PastedLines}
 use Rattle.column.specs.declared.Line.{Line}
-use Rattle.column.specs.declared.Member.{Member}
 use Rattle.column.specs.declared.Column.{Column}
-use Rattle.column.specs.declared.Pasted.{Pasted}
-use Rattle.column.specs.Column.{column_from, entered_of}
+use Rattle.column.specs.Column.{entered_of}
 
 -- 02, CR 1: "It says how many were kept, and the number of the refusal if there was one", 0 where there was none; beside them
 -- the column then
@@ -29,11 +27,6 @@ pasted_from kept c (l ∷ ls) =
 -- 02, CR 1: the whole list, none of it being kept yet
 abbrev pub pasted_of : Column → List Line → Pasting
 pasted_of c lines = pasted_from 0 c lines
-
--- No part of the paper: what the answer of a paste in place says, whose column is the one that the member, the count in it
--- and the places then make
-unfoldable pub pasted_outcome : Member → Pasted → List ℕ → Pasting
-pasted_outcome m p places = record { number = p.number; kept = p.kept; column = column_from m p.count places }
 
 -- 01, Numbers by the place of checking: the number of a refusal; 0 where there is none
 unfoldable pub number_or_0 : Option Refusal → ℕ

@@ -6,7 +6,7 @@ ghost use Rattle.column.specs.Accepted.{last_floor};
 ghost use Rattle.column.specs.Column.{lines_of, column_from, entered_of, Reached, count_after, entered_outcome};
 ghost use Rattle.column.specs.Pasted.{pasted_of, paste_outcome};
 
-use crate::{Line, Member, Places, check, places};
+use crate::{Line, Member, Places, conditions, places};
 use member::TributaryArea;
 use refusal::Refusal;
 
@@ -30,7 +30,7 @@ fn enter_below(
     ensures entered { entered_outcome member count result held.new ≡ entered_of (column_from member count held.old) line }
     ensures reached { Reached (column_from member (count_after count result) held.new) }
 {
-    check::check(member, count as u64, last, line)?;
+    conditions::check(member, count as u64, last, line)?;
     held[count as usize] = places::number_of(line);
     Ok(count + 1)
 }
@@ -53,7 +53,7 @@ pub fn paste(held: &mut Places, member: Member, count: u16, lines: &[u64]) -> Pa
     ensures pasted { paste_outcome result (column_from member (count + result.kept) held.new) ≡ pasted_of (column_from member count held.old) (entries_of lines.now) }
     ensures reached { Reached (column_from member (count + result.kept) held.new) }
 {
-    let mut kept = 0;
+    let mut filled = count;
     let mut last = places::last_floor_of(held, count);
     let mut rest = lines;
     while let [floor, class, load, area, after @ ..] = rest {
@@ -63,18 +63,21 @@ pub fn paste(held: &mut Places, member: Member, count: u16, lines: &[u64]) -> Pa
             load: *load,
             area: TributaryArea(*area),
         };
-        if let Err(refusal) = enter_below(held, member, count + kept, last, line) {
-            return PastedLines {
-                kept,
-                refusal: Some(refusal),
-            };
+        let entered = enter_below(held, member, filled, last, line);
+        match entered {
+            Ok(next) => filled = next,
+            Err(refusal) => {
+                return PastedLines {
+                    kept: filled - count,
+                    refusal: Some(refusal),
+                };
+            }
         }
-        kept += 1;
         last = line.floor;
         rest = after;
     }
     PastedLines {
-        kept,
+        kept: filled - count,
         refusal: None,
     }
 }

@@ -1,7 +1,7 @@
 -- `column::Column::open` meets its contract: a column without lines is reached where the opening is not refused. Assumes nothing.
 use Rattle.std.proofs.Common.{ap, sym, subst}
 use Rattle.std.proofs.lemmas.Result.{err_from_is_err_and}
-use Rattle.column.specs.declared.Outcome.{Outcome}
+use Rattle.column.specs.Column.{Outcome}
 use Rattle.column.specs.Column.{column_of, opened_as, Reached}
 use Rattle.column.proofs.Reach.{reached_opened}
 use Rattle.column.proofs.Column.open.Goals as goal

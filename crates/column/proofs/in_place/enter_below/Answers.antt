@@ -3,7 +3,7 @@ use Rattle.std.proofs.Common.{arith, ap, subst, sym}
 use Rattle.std.proofs.lemmas.Result.{err_from_is_err_and}
 use Rattle.refusal.specs.Said.{number_told}
 use Rattle.refusal.proofs.Said.{number_positive}
-use Rattle.column.specs.declared.Outcome.{Outcome}
+use Rattle.column.specs.Column.{Outcome}
 use Rattle.column.specs.Column.{count_after, entered_outcome, Reached}
 use Rattle.column.proofs.InPlace.{refused_in_place, room, joined_in_place}
 use Rattle.column.proofs.Reach.{reached_entered}

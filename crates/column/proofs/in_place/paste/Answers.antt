@@ -1,11 +1,10 @@
 -- `column::in_place::paste` meets its contract: pasting what is left gives what pasting all from the start gives. Assumes nothing.
-use Rattle.std.proofs.Common.{◌≡◌, refl, length-take, length-drop, sym, ◌∙◌, ap, ◌+◌, ◌-◌, arith, length, drop}
-use Rattle.refusal.proofs.Said.{number_positive}
+use Rattle.std.proofs.Common.{◌≡◌, refl, sym, ◌∙◌, ap, ℕ, ◌+◌, ◌-◌, ◌≤◌, arith, length, length-take, length-drop, drop}
 use Rattle.refusal.specs.Said.{number_told}
-use Rattle.column.specs.declared.Outcome.{Outcome}
+use Rattle.refusal.proofs.Said.{number_positive}
 use Rattle.column.specs.Line.{entries_of}
 use Rattle.column.specs.Accepted.{last_floor}
-use Rattle.column.specs.Column.{lines_of, column_from, count_after, entered_outcome}
+use Rattle.column.specs.Column.{Outcome, lines_of, column_from, count_after, entered_outcome}
 use Rattle.column.specs.Pasted.{pasted_from, number_or_0, paste_outcome}
 use Rattle.column.proofs.Entries.{entries_few}
 use Rattle.column.proofs.InPlace.{reached_held}
@@ -13,36 +12,34 @@ use Rattle.column.proofs.Pasting.{pasted_next, pasted_end, pasted_none, pasted_o
 use Rattle.column.proofs.Reach.{entered_count, entered_last}
 use Rattle.column.proofs.in_place.paste.Goals as goal
 
+-- the kept lines beside those that were held
+beside : {count filled : ℕ} → count ≤ filled → count + (filled - count) ≡ filled
+beside h = omega arith
+
 pub last_floor_of-last-requires : goal.last_floor_of-last-requires
 last_floor_of-last-requires c = reached_held c.requires
 
 pub loop-rest-init : goal.loop-rest-init
 unfolding lines_of
 loop-rest-init c =
-    let none : c.args.count + 0 ≡ c.args.count = omega arith in
-    rw none (c.requires, c.last_floor_of-last.ensures, λ i. pasted_from 0 (column_from c.args.member c.args.count c.args.held.now) (entries_of c.args.lines.now))
+    let none : c.args.count - c.args.count ≡ 0 = omega arith in (
+      omega arith,
+      c.requires,
+      c.last_floor_of-last.ensures,
+      ap (λ (k : ℕ). pasted_from k (column_from c.args.member c.args.count c.args.held.now) (entries_of c.args.lines.now)) none,
+    )
 
-pub overflow_add-count : goal.overflow_add-count
-overflow_add-count c = let few = (reached_held c.loop-rest.invariant.0).few in omega (arith, few)
+pub enter_below-entered-requires : goal.enter_below-entered-requires
+enter_below-entered-requires c = record { reached = c.loop-rest.invariant.1; last_value = c.loop-rest.invariant.2 }
 
-pub enter_below-requires-clause-reached : goal.enter_below-requires-clause-reached
-enter_below-requires-clause-reached c = c.loop-rest.invariant.0
-
-pub enter_below-requires-clause-last_value : goal.enter_below-requires-clause-last_value
-enter_below-requires-clause-last_value c = c.loop-rest.invariant.1
-
-pub returns-in-Err-clause-pasted : goal.returns-in-Err-clause-pasted
+pub returns-in-Err : goal.returns-in-Err
 unfolding paste_outcome number_or_0 entered_outcome number_told count_after
-returns-in-Err-clause-pasted c =
-    pasted_end c.loop-rest.kept _ _ _ _ c.in-Err.ensures.entered (number_positive c.in-Err.refusal)
-    ∙ pasted_onward c.loop-rest.kept _ c.loop-rest.rest.now c.in-len4-up.len_at_least c.loop-rest.invariant.2
-
-pub returns-in-Err-clause-reached : goal.returns-in-Err-clause-reached
-unfolding count_after
-returns-in-Err-clause-reached c = c.in-Err.ensures.reached
-
-pub overflow_add-kept : goal.overflow_add-kept
-overflow_add-kept c = let few = (reached_held c.loop-rest.invariant.0).few in omega (arith, few)
+returns-in-Err c =
+    rw (beside c.loop-rest.invariant.0) (record {
+      pasted = pasted_end (c.loop-rest.filled - c.args.count) _ _ _ _ c.in-Err.ensures.entered (number_positive c.in-Err.refusal)
+          ∙ pasted_onward (c.loop-rest.filled - c.args.count) _ c.loop-rest.rest.now c.in-len4-up.len_at_least c.loop-rest.invariant.3;
+      reached = c.in-Err.ensures.reached;
+    })
 
 pub loop-rest-smaller : goal.loop-rest-smaller
 loop-rest-smaller c =
@@ -51,22 +48,22 @@ loop-rest-smaller c =
 pub loop-rest-preserved : goal.loop-rest-preserved
 unfolding entered_outcome number_told count_after
 loop-rest-preserved c =
-    let j = c.in_default-enter_below.ensures.entered in
+    let j = c.in-Ok.ensures.entered in
     let zero = sym (ap (λ (o : Outcome). o.number) j) in
-    let one : c.in_default-enter_below.field-0 ≡ c.args.count + c.loop-rest.kept + 1 = ap (λ (o : Outcome). o.column.count) j ∙ entered_count _ c.loop-rest.invariant.0 zero in
-    let more : c.args.count + (c.loop-rest.kept + 1) ≡ c.in_default-enter_below.field-0 = omega (arith, one) in
-    rw more (
-      c.in_default-enter_below.ensures.reached,
+    let one : c.in-Ok.next ≡ c.loop-rest.filled + 1 = ap (λ (o : Outcome). o.column.count) j ∙ entered_count _ c.loop-rest.invariant.1 zero in
+    let more : c.in-Ok.next - c.args.count ≡ c.loop-rest.filled - c.args.count + 1 = omega (arith, one, c.loop-rest.invariant.0) in (
+      omega (arith, one, c.loop-rest.invariant.0),
+      c.in-Ok.ensures.reached,
       sym (ap (λ (o : Outcome). last_floor (lines_of o.column)) j ∙ entered_last _ _ zero),
-      pasted_next c.loop-rest.kept _ _ _ _ j refl ∙ pasted_onward c.loop-rest.kept _ c.loop-rest.rest.now c.in-len4-up.len_at_least c.loop-rest.invariant.2,
+      rw more (pasted_next (c.loop-rest.filled - c.args.count) _ _ _ _ j refl ∙ pasted_onward (c.loop-rest.filled - c.args.count) _ c.loop-rest.rest.now c.in-len4-up.len_at_least c.loop-rest.invariant.3),
     )
 
-pub returns-clause-pasted : goal.returns-clause-pasted
+pub returns : goal.returns
 unfolding paste_outcome number_or_0
-returns-clause-pasted c =
-    let d = column_from c.args.member (c.args.count + c.loop-rest.kept) c.loop-rest.held in
-    sym (pasted_none c.loop-rest.kept d)
-    ∙ (ap (pasted_from c.loop-rest.kept d) (sym (entries_few c.loop-rest.rest.now c.in_default.len_below)) ∙ c.loop-rest.invariant.2)
-
-pub returns-clause-reached : goal.returns-clause-reached
-returns-clause-reached c = c.loop-rest.invariant.0
+returns c =
+    let d = column_from c.args.member c.loop-rest.filled c.loop-rest.held in
+    let kept = c.loop-rest.filled - c.args.count in
+    rw (beside c.loop-rest.invariant.0) (record {
+      pasted = sym (pasted_none kept d) ∙ (ap (pasted_from kept d) (sym (entries_few c.loop-rest.rest.now c.in_default.len_below)) ∙ c.loop-rest.invariant.3);
+      reached = c.loop-rest.invariant.1;
+    })

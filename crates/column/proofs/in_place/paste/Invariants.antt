@@ -1,5 +1,5 @@
 -- Pasting what is left goes on as pasting the whole list does, behind so many kept lines. Assumes nothing.
-use Rattle.std.proofs.Common.{◌≡◌, ◌+◌, length}
+use Rattle.std.proofs.Common.{◌≡◌, ◌-◌, ◌≤◌, length}
 use Rattle.column.specs.Line.{entries_of}
 use Rattle.column.specs.Accepted.{last_floor}
 use Rattle.column.specs.Column.{lines_of, column_from, Reached}
@@ -8,9 +8,10 @@ use Rattle.column.proofs.in_place.paste.Given as goal
 
 abbrev pub invariant-loop-rest : goal.invariant-loop-rest
 invariant-loop-rest l =
-    Reached (column_from l.member (l.count + l.kept) l.held)
-    × (l.last ≡ last_floor (lines_of (column_from l.member (l.count + l.kept) l.held)))
-    × (pasted_from l.kept (column_from l.member (l.count + l.kept) l.held) (entries_of l.rest) ≡ pasted_of (column_from l.member l.count l.initial.held) (entries_of l.lines))
+    (l.count ≤ l.filled)
+    × Reached (column_from l.member l.filled l.held)
+    × (l.last ≡ last_floor (lines_of (column_from l.member l.filled l.held)))
+    × (pasted_from (l.filled - l.count) (column_from l.member l.filled l.held) (entries_of l.rest) ≡ pasted_of (column_from l.member l.count l.initial.held) (entries_of l.lines))
 
 abbrev pub decreases-loop-rest : goal.decreases-loop-rest
 decreases-loop-rest l = length l.rest
