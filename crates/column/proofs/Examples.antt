@@ -1,7 +1,7 @@
 -- What pasting gives in the examples holds. A wrong definition of pasting is refused here, by an example, before it is at a
 -- law: modules are checked in the order of their names.
 -- Assumes nothing.
-use mathlib.Core.Path.{refl}
+use Rattle.std.proofs.Common.{refl}
 use Rattle.lists.specs.Lists.{All, none, more}
 use Rattle.column.specs.Line.{entries_of, unpacked}
 use Rattle.column.specs.Accepted.{last_floor, first_condition, entry_number}

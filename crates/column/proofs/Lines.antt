@@ -1,11 +1,9 @@
 -- The lines of a column: as many as it counts, those between two places, and the last of them.
 -- Assumes nothing.
-use mathlib.Core.Path.{◌≡◌, refl, sym, ◌∙◌, ap}
-use mathlib.Core.List.{List, [], ◌∷◌, ◌++◌, map, map-append}
-use Prim.Native.Nat.{ℕ, suc, ◌-◌, ◌≤◌, ◌<◌}
-use native.Mathlib.Omega.{arith}
-use lib.ListN.{length, take, drop, length-map, take-append-drop}
-use lib.Seq.{slice, slice_empty, slice-cons, length-take-le, take-take, drop-append-le}
+use Rattle.std.proofs.Common.{◌≡◌, refl, sym, ◌∙◌, ap, List, [], ◌∷◌, ◌++◌, map, ℕ, suc, ◌-◌, ◌≤◌, ◌<◌, arith, length, take, drop, take-append-drop, length-take-le, take-take}
+use mathlib.Core.List.{map-append}
+use lib.ListN.{length-map}
+use lib.Seq.{slice, slice_empty, slice-cons, drop-append-le}
 use Rattle.column.specs.declared.Line.{Line}
 use Rattle.column.specs.declared.Column.{Column}
 use Rattle.column.specs.Line.{unpacked}

@@ -1,7 +1,6 @@
 -- Single entries and pastes, in whatever mixture, are a list of entries.
 -- Assumes nothing.
-use mathlib.Core.Path.{◌≡◌, refl, sym, ◌∙◌, ap}
-use mathlib.Core.List.{[], ◌∷◌}
+use Rattle.std.proofs.Common.{◌≡◌, refl, sym, ◌∙◌, ap, [], ◌∷◌}
 use Rattle.column.specs.declared.Column.{Column}
 use Rattle.column.specs.Column.{opened_of, after}
 use Rattle.column.specs.theorems.Pasting.{EndsAsEntering}

@@ -1,13 +1,9 @@
 -- A column that opening and entering gave: it is the column of the accepted lines, and they are within their limits.
 -- Assumes nothing.
-use mathlib.Core.Path.{◌≡◌, refl, sym, ◌∙◌, ap, subst⁻¹}
-use mathlib.Core.Bool.{Bool, true, false, cond, not, ◌||◌, false≢true}
-use mathlib.Core.List.{List, [], ◌∷◌, ◌++◌}
-use Prim.Native.Nat.{ℕ, ◌+◌, ◌≤◌, ◌<◌}
-use native.Mathlib.Omega.{arith}
-use lib.Dec.{leb, ltb, eqb}
-use lib.ListN.{length, length-append}
-use borrow.Author.Tests.{leb-false, ltb-false, eqb-true, ne_eqb, not-false}
+use Rattle.std.proofs.Common.{◌≡◌, refl, sym, ◌∙◌, ap, Bool, true, false, cond, not, ◌||◌, List, [], ◌∷◌, ◌++◌, ℕ, ◌+◌, ◌≤◌, ◌<◌, arith, leb, ltb, eqb, length, length-append, leb-false, ltb-false, eqb-true, ne_eqb}
+use mathlib.Core.Path.{subst⁻¹}
+use mathlib.Core.Bool.{false≢true}
+use borrow.Author.Tests.{not-false}
 use Rattle.member.specs.Between.{between}
 use Rattle.lists.specs.Lists.{All, none}
 use Rattle.member.proofs.Tests.{limits}

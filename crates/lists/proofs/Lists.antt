@@ -1,12 +1,6 @@
 -- Laws of choices and sums over a list, and of what holds of each element.
 -- Assumes nothing.
-use mathlib.Core.Path.{◌≡◌, refl, ap}
-use mathlib.Core.Bool.{Bool, true, false, cond}
-use mathlib.Core.List.{List, [], ◌∷◌, ◌++◌}
-use Prim.Native.Nat.{ℕ, zero, suc, ◌+◌, ◌*◌, ◌≤◌}
-use native.Mathlib.Nat.{zero-add, mul-suc}
-use native.Mathlib.Omega.{arith}
-use lib.ListN.{length, get_or, set, replicate}
+use Rattle.std.proofs.Common.{◌≡◌, refl, ap, Bool, true, false, cond, List, [], ◌∷◌, ◌++◌, ℕ, zero, suc, ◌+◌, ◌*◌, ◌≤◌, zero-add, mul-suc, arith, length, get_or, set, replicate}
 use Rattle.lists.specs.Lists.{All, none, more, keep, total}
 
 module _ {A : Type 0} where
