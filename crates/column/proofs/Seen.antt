@@ -1,13 +1,14 @@
 -- A column that is lent in its parts is a reached one, and a reached one may be lent.
 -- Assumes nothing.
 use Rattle.std.proofs.Common.{◌≡◌, refl, sym, ◌∙◌, ap, List, [], ◌∷◌, ◌++◌}
+use Rattle.std.proofs.Math.Logic.{∥∥₁_elim}
+use Rattle.std.proofs.Props.{props}
 use Rattle.column.specs.declared.Line.{Line}
 use Rattle.column.specs.declared.Member.{Member}
 use Rattle.column.specs.declared.Column.{Column}
 use Rattle.column.specs.declared.lent.ColumnRef.{ColumnRef}
 use Rattle.column.specs.Accepted.{entry_number, joined, accepted_from, accepted}
-use Rattle.column.specs.Column.{lines_of, column_of, opened_of, Reached}
-use Rattle.column.specs.Lent.{entered_again}
+use Rattle.column.specs.Column.{lines_of, column_of, opened_of, Reached, after}
 use Rattle.column.specs.Seen.{column_seen}
 use Rattle.column.specs.theorems.InTurn.{AcceptedInTurn, none, more}
 use Rattle.column.proofs.InTurn.{reached_in_turn}
@@ -34,22 +35,33 @@ pub reached_opens : {c : Column} → Reached c → (opened_of c.member).number �
 unfolding column_of
 reached_opens r = ap (λ (d : Column). (opened_of d.member).number) (reached_column r) ∙ r.opened
 
--- its lines, entered again, give it
-pub reached_again : {c : Column} → Reached c → entered_again c.member c.count c.held ≡ c
+-- the column of a member after these lines, entered again
+entered_again : Column → Column
+entered_again c = after (opened_of c.member).column (lines_of c)
+
+-- the lines of a reached column, entered again, give it
+reached_again : {c : Column} → Reached c → entered_again c ≡ c
 unfolding entered_again
 reached_again {c} r =
     after_opened c.member (lines_of c) (reached_opens r)
     ∙ (ap (column_of c.member) (accepted_again (reached_in_turn r)) ∙ sym (reached_is r))
 
--- so a column that is lent is a reached one
-pub seen_reached : (c : ColumnRef) → Reached (column_seen c)
-unfolding entered_again column_of
-seen_reached c =
-    let again = entered_again c.member c.count c.held.now in
-    let its : again.member ≡ c.member = ap (λ (d : Column). d.member) (after_opened c.member (lines_of (column_seen c)) c.opens) in
+-- so a column of which only that it is reached is known, and not how, is reached by its lines
+pub reached_anyhow : {c : Column} → ∥ Reached c ∥₁ → Reached c
+unfolding entered_again
+reached_anyhow {c} r =
+    let again = entered_again c in
+    let opens : (opened_of c.member).number ≡ 0 = ∥∥₁_elim r (Prim.hlevel props) reached_opens in
+    let counted : again.count ≡ c.count = ∥∥₁_elim r (Prim.hlevel props) (λ s. ap (λ (d : Column). d.count) (reached_again s)) in
+    let held : again.held ≡ c.held = ∥∥₁_elim r (Prim.hlevel props) (λ s. ap (λ (d : Column). d.held) (reached_again s)) in
+    let its : again.member.code ≡ c.member.code = ∥∥₁_elim r (Prim.hlevel props) (λ s. ap (λ (d : Column). d.member.code) (reached_again s)) in
     record {
       member = c.member;
-      entries = lines_of (column_seen c);
-      opened = c.opens;
-      is = λ i. record { member = sym its i; count = sym c.counted i; held = sym c.entered i };
+      entries = lines_of c;
+      opened = opens;
+      is = λ i. record { member = record { code = sym its i }; count = sym counted i; held = sym held i };
     }
+
+-- a column that is lent is a reached one
+pub seen_reached : (c : ColumnRef) → Reached (column_seen c)
+seen_reached c = reached_anyhow c.reached

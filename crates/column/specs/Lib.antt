@@ -2,7 +2,6 @@
 pub mod Line
 pub mod Accepted
 pub mod Column
-pub mod Lent
 pub mod Seen
 pub mod Pasted
 pub mod theorems

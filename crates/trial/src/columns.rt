@@ -51,13 +51,13 @@ impl State {
     }
 
     // Enters a line.
-    #[tactic(auto, using(crate::proofs::Reached::reached_anyhow))]
+    #[tactic(auto, using(column::proofs::Seen::reached_anyhow))]
     pub fn enter(&mut self, line: Line) -> Result<(), Refusal> {
         self.column.enter(line)
     }
 
     // Asks the column at a floor.
-    #[tactic(auto, using(crate::proofs::Reached::reached_anyhow))]
+    #[tactic(auto, using(column::proofs::Seen::reached_anyhow))]
     pub fn ask(&self, floor: u64) -> Result<Working, Refusal> {
         figure::ask(self.column, floor)
     }

@@ -1,2 +1,0 @@
--- What the functions' proofs use.
-pub mod Reached
