@@ -5,6 +5,10 @@
 use Rattle.std.specs.Prelude.{Bool, true, false, cond, ℕ, ◌*◌, ◌/◌, ◌%◌, ◌^◌, leb, ltb, eqb, ℤ, pos, neg_ℤ, nat_abs, Float, Option, Some, None}
 use Rattle.std.specs.Float.{nan, inf, fin}
 use Rattle.std.specs.Float.Ieee.{up, down}
+use Rattle.refusal.specs.Refusal.{number_of}
+use Rattle.refusal.specs.declared.Refusal.TheVariants.{EffectNotWhole, EffectOutOfRange}
+use Rattle.newtons.specs.declared.Effect.{Effect}
+use Rattle.newtons.specs.declared.Effect.TheVariants.{Whole, NotWhole, Beyond}
 use Rattle.refusal.specs.Said.{Told, Said, gives, refused, nothing}
 
 -- 01, Numbers by the place of checking: the value of a double, a whole number or not
@@ -53,3 +57,10 @@ limited x (whole z) = cond (within z) (gives z) (refused 9 x)
 -- 01, Numbers by the place of checking: what a double gives as an effect, or 8 or 9
 unfoldable pub effect_of : Float → Told Float ℤ
 effect_of x = limited x (value_of x)
+
+-- 01, Where each language form belongs: "enum: whole number, not whole (f64), beyond limit (f64)": the number and the values of
+-- each case
+unfoldable pub said_effect : Effect → Told Float ℤ
+said_effect (Whole z) = gives z
+said_effect (NotWhole x) = refused (number_of EffectNotWhole) x
+said_effect (Beyond x) = refused (number_of EffectOutOfRange) x

@@ -2,10 +2,10 @@
 #![tactic(auto)]
 
 ghost use Rattle.std.specs.Prelude.{◌≡◌};
-ghost use Rattle.refusal.specs.Said.{said, told};
-ghost use Rattle.newtons.specs.Effect.{value_of, held_of, within, effect_of};
+ghost use Rattle.refusal.specs.Said.{said};
+ghost use Rattle.newtons.specs.Effect.{value_of, held_of, within, effect_of, said_effect};
 
-use refusal::{Refusal, Refused};
+use refusal::Refusal;
 
 pub mod signed;
 
@@ -14,6 +14,15 @@ const LIMIT: u64 = 1_000_000_000_000;
 
 // The exponent in the bits of an infinity.
 const INFINITE: u64 = 2047;
+
+// A double as an effect in newtons; a refused one comes back as it came. It stays an enum of its own and is no Result, since
+// the papers name its three cases (01, Where each language form belongs).
+#[derive(Clone, Copy)]
+pub enum Effect {
+    Whole(i64),
+    NotWhole(f64),
+    Beyond(f64),
+}
 
 // Whether an effect of so many newtons is within the limit.
 pub fn is_within(newtons: i64) -> bool
@@ -64,18 +73,18 @@ pub fn value_of(x: f64) -> Result<Option<i64>, Refusal>
     Ok(Some(size as i64))
 }
 
-// A double as an effect: first whether it is a whole number, then whether that is within the limit. A
-// refused one comes back as it came.
-pub fn whole_of(x: f64) -> Result<i64, Refused<f64>>
-    ensures { told result ≡ effect_of x }
+// A double as an effect: first whether it is a whole number, then whether that is within the limit.
+pub fn whole_of(x: f64) -> Effect
+    ensures { said_effect result ≡ effect_of x }
 {
-    let refuse = |refusal: Refusal| Refused { refusal, back: x };
-    let Some(newtons) = value_of(x).map_err(refuse)? else {
-        return Err(refuse(Refusal::EffectOutOfRange));
-    };
-    if is_within(newtons) {
-        Ok(newtons)
-    } else {
-        Err(refuse(Refusal::EffectOutOfRange))
+    match value_of(x) {
+        Ok(Some(newtons)) => {
+            if is_within(newtons) {
+                return Effect::Whole(newtons);
+            }
+            Effect::Beyond(x)
+        }
+        Ok(None) => Effect::Beyond(x),
+        Err(_) => Effect::NotWhole(x),
     }
 }
