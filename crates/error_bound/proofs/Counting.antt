@@ -16,7 +16,7 @@ use Rattle.refusal.proofs.Said.{by_number, not_zero, number_positive}
 use Rattle.column.specs.declared.Line.{Line}
 use Rattle.column.specs.declared.Member.{Member}
 use Rattle.column.specs.declared.Column.{Column}
-use Rattle.column.specs.declared.Outcome.{Outcome}
+use Rattle.column.specs.Column.{Outcome}
 use Rattle.column.specs.Accepted.{entry_number, joined}
 use Rattle.column.specs.Line.{entries_of}
 use Rattle.column.specs.Column.{column_of, opened_of, entered_of, after}

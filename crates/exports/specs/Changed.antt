@@ -2,7 +2,7 @@
 -- Assumes nothing.
 use Rattle.std.specs.Prelude.{List, [], ℕ}
 use Rattle.column.specs.declared.Member.{Member}
-use Rattle.column.specs.declared.Outcome.{Outcome}
+use Rattle.column.specs.Column.{Outcome}
 use Rattle.column.specs.Column.{column_of, column_from}
 use Rattle.column.specs.Pasted.{Pasting}
 use Rattle.exports.specs.declared.changes.BungeroOpened.{BungeroOpened}

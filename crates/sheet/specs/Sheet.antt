@@ -2,7 +2,7 @@
 -- Assumes nothing.
 use Rattle.std.specs.Prelude.{Bool, false, cond, List, [], ◌∷◌, ℕ, ◌+◌, ◌-◌, leb, ltb, eqb, ℤ, pos, length, take, drop, set, replicate}
 use Rattle.column.specs.declared.Column.{Column}
-use Rattle.column.specs.declared.Outcome.{Outcome}
+use Rattle.column.specs.Column.{Outcome}
 use Rattle.column.specs.Column.{member_of, unopened, opened_of, entered_of}
 use Rattle.newtons.specs.Effect.{within}
 use Rattle.sheet_lines.specs.declared.Due.{Due}

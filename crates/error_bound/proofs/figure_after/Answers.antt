@@ -3,7 +3,7 @@ use Rattle.std.proofs.Common.{sym, ◌∙◌, ap}
 use Rattle.refusal.specs.Said.{said}
 use Rattle.refusal.proofs.Said.{number_positive}
 use Rattle.column.specs.declared.Column.{Column}
-use Rattle.column.specs.declared.Outcome.{Outcome}
+use Rattle.column.specs.Column.{Outcome}
 use Rattle.column.specs.Column.{member_of, opened_as, after}
 use Rattle.column.specs.Line.{entries_of}
 use Rattle.figure.specs.Asked.{asked}

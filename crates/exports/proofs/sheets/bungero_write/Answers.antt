@@ -1,15 +1,9 @@
 -- `exports::sheets::bungero_write` meets its contract: what writing gives, in numbers alone. Assumes nothing.
 use Rattle.std.proofs.Common.{ap}
 use Rattle.column.specs.declared.Column.{Column}
-use Rattle.column.proofs.Seen.{reached_opens, reached_again}
 use lib.Ieee.{of_bits}
 use Rattle.sheet_writer.proofs.Checks.{written_is, refused_is}
 use Rattle.exports.proofs.sheets.bungero_write.Goals as goal
-
-pub invariant_of-column : goal.invariant_of-column
-invariant_of-column c =
-    let e = reached_again c.requires in
-    record { opens = reached_opens c.requires; counted = ap (λ (d : Column). d.count) e; entered = ap (λ (d : Column). d.held) e }
 
 pub returns-in-Ok-clause-value : goal.returns-in-Ok-clause-value
 unfolding of_bits

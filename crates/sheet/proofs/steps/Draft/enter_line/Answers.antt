@@ -6,7 +6,7 @@ use Rattle.refusal.proofs.Said.{number_positive, not_zero}
 use Prim.Native.Nat.{ℕ, ◌≤◌}
 use Rattle.column.specs.declared.Line.{Line}
 use Rattle.column.specs.declared.Column.{Column}
-use Rattle.column.specs.declared.Outcome.{Outcome}
+use Rattle.column.specs.Column.{Outcome}
 use Rattle.column.specs.Column.{entered_of}
 use Rattle.column.proofs.Reach.{entered_refused}
 use Rattle.sheet.specs.Sheet.{with_outcome, if_taken, valued}

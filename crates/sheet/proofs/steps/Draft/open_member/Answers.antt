@@ -4,7 +4,7 @@ use Rattle.std.proofs.lemmas.Result.{err_from_is_err_and}
 use Rattle.refusal.specs.Said.{number_told}
 use Rattle.refusal.proofs.Said.{number_positive, not_zero}
 use Rattle.column.specs.declared.Column.{Column}
-use Rattle.column.specs.declared.Outcome.{Outcome}
+use Rattle.column.specs.Column.{Outcome}
 use Rattle.column.specs.Column.{column_of, opened_as}
 use Rattle.sheet_lines.specs.declared.Due.TheVariants as D
 use Rattle.sheet.specs.Sheet.{with_outcome, if_taken, valued}
