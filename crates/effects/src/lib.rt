@@ -6,8 +6,7 @@ ghost use Rattle.refusal.specs.Said.{gives, told};
 ghost use Rattle.newtons.specs.Effect.{effect_of};
 ghost use Rattle.effects.specs.Check.{loads, place_of, of_load, newtons_of, load_effect, if_given, checked_of, said_checked};
 
-use newtons::Effect;
-use refusal::{Refusal, Refused};
+use refusal::Refused;
 
 // The loads, with their places in the order of checking.
 #[derive(Clone, Copy, PartialEq, Eq)]
@@ -85,21 +84,18 @@ pub struct LoadEffect {
 
 // The effect of one load in whole newtons, or its refusal.
 #[inline(always)]
-#[tactic(auto, unfolding(refusal::specs::Said::told, refusal::specs::Refusal::number_of, crate::specs::Check::if_given, newtons::specs::Effect::said_effect))]
 fn whole_of(load: Load, double: f64) -> Result<i64, Refused<LoadEffect>>
     ensures { told result ≡ if_given (load_effect load double) (effect_of double) (λ z. gives z) }
 {
-    match newtons::whole_of(double) {
-        Effect::Whole(newtons) => Ok(newtons),
-        Effect::NotWhole(double) => Err(Refused {
-            refusal: Refusal::EffectNotWhole,
-            back: LoadEffect { load, double },
-        }),
-        Effect::Beyond(double) => Err(Refused {
-            refusal: Refusal::EffectOutOfRange,
-            back: LoadEffect { load, double },
-        }),
-    }
+    newtons::whole_of(double)
+        .checked()
+        .map_err(|refused| Refused {
+            refusal: refused.refusal,
+            back: LoadEffect {
+                load,
+                double: refused.back,
+            },
+        })
 }
 
 // The seven effects in whole newtons, checked dead to quake, or the first that is refused.

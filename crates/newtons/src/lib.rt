@@ -2,10 +2,10 @@
 #![tactic(auto)]
 
 ghost use Rattle.std.specs.Prelude.{◌≡◌};
-ghost use Rattle.refusal.specs.Said.{said};
+ghost use Rattle.refusal.specs.Said.{said, told};
 ghost use Rattle.newtons.specs.Effect.{value_of, held_of, within, effect_of, said_effect};
 
-use refusal::Refusal;
+use refusal::{Refusal, Refused};
 
 pub mod signed;
 
@@ -22,6 +22,26 @@ pub enum Effect {
     Whole(i64),
     NotWhole(f64),
     Beyond(f64),
+}
+
+impl Effect {
+    // The whole number, or the refusal with the double as it came.
+    #[tactic(auto, unfolding(crate::specs::Effect::said_effect, refusal::specs::Said::told, refusal::specs::Refusal::number_of))]
+    pub fn checked(self) -> Result<i64, Refused<f64>>
+        ensures { told result ≡ said_effect self }
+    {
+        match self {
+            Effect::Whole(newtons) => Ok(newtons),
+            Effect::NotWhole(double) => Err(Refused {
+                refusal: Refusal::EffectNotWhole,
+                back: double,
+            }),
+            Effect::Beyond(double) => Err(Refused {
+                refusal: Refusal::EffectOutOfRange,
+                back: double,
+            }),
+        }
+    }
 }
 
 // Whether an effect of so many newtons is within the limit.

@@ -56,13 +56,15 @@ pub struct Placed {
 fn whole_at(place: u64, double: f64) -> Result<i64, Refused<Option<Placed>>>
     ensures { told result ≡ placed_at place (effect_of double) }
 {
-    newtons::whole_of(double).map_err(|refused| Refused {
-        refusal: refused.refusal,
-        back: Some(Placed {
-            place,
-            double: refused.back,
-        }),
-    })
+    newtons::whole_of(double)
+        .checked()
+        .map_err(|refused| Refused {
+            refusal: refused.refusal,
+            back: Some(Placed {
+                place,
+                double: refused.back,
+            }),
+        })
 }
 
 // The six effects of a sheet in whole newtons, checked dead to quake.

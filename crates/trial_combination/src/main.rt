@@ -19,7 +19,7 @@ fn answer_of(line: &[u8]) -> Option<Answer> {
     match (line.first()?, line.len()) {
         (b'w', 22) => {
             let double = doubles::double_from(&line[6..22])?;
-            Some(Answer::Whole(newtons::whole_of(double)))
+            Some(Answer::Whole(newtons::whole_of(double).checked()))
         }
         (b'c', 126) => {
             let effects = doubles::seven_from(&line[8..126], doubles::double_from)?;

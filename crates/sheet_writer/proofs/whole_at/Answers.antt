@@ -20,5 +20,5 @@ pub returns : goal.returns
 unfolding beside
 returns c =
     let p = c.args.place in
-    ap told (mapped_is (beside p) _ c.whole_of.result c.map_err.result (λ e y q. search rules) c.map_err.ensures.cases)
-    ∙ (told_beside p c.whole_of.result ∙ ap (placed_at p) c.whole_of.ensures)
+    ap told (mapped_is (beside p) _ c.checked.result c.map_err.result (λ e y q. search rules) c.map_err.ensures.cases)
+    ∙ (told_beside p c.checked.result ∙ ap (placed_at p) (c.checked.ensures ∙ c.whole_of.ensures))
