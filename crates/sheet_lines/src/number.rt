@@ -18,15 +18,15 @@ fn may_grow(count: usize, value: u64) -> bool
     count == 0 || (value != 0 && count < 13)
 }
 
-// The number of so many digits, which end before a place.
+// The number of so many digits at the start of a text.
 #[tactic(auto, unfolding(crate::specs::Number::number_ended))]
-fn number_ended(count: usize, value: u64, next: usize) -> Option<Read>
-    ensures { result ≡ number_ended count value next }
+fn number_ended(count: usize, value: u64) -> Option<Read>
+    ensures { result ≡ number_ended count value count }
 {
     if count == 0 {
         return None;
     }
-    Some(Read { value, next })
+    Some(Read { value, next: count })
 }
 
 // The number at the start of a text. `parse` of the library takes needless zeros and more digits, so all
@@ -39,7 +39,7 @@ pub fn number_at(text: &[u8]) -> Option<Read>
     let mut value = 0;
     for byte in text {
         if !byte.is_ascii_digit() {
-            return number_ended(count, value, count);
+            return number_ended(count, value);
         }
         if !may_grow(count, value) {
             return None;
@@ -47,7 +47,7 @@ pub fn number_at(text: &[u8]) -> Option<Read>
         value = value * 10 + (*byte - b'0') as u64;
         count += 1;
     }
-    number_ended(count, value, count)
+    number_ended(count, value)
 }
 
 // The number behind a key that stands at the start of a text.
