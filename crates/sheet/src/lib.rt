@@ -59,7 +59,8 @@ fn refused(refusal: Refusal, line: u64, start: usize, end: usize) -> Result<Stop
     })
 }
 
-// Reads a sheet line by line, each its form and then its values, into a draft on which nothing is read yet.
+// Reads a sheet line by line, each its form and then its values, into a draft on which nothing is read yet. The end of a
+// line is found by `line_end`; byte by byte, as by `split_inclusive`, it was a third of a large take-down.
 fn read_in(draft: &mut Draft, text: &[u8]) -> Result<Stop, Refused<Stop>>
     requires { draft.old ≡ unread }
     ensures { reading_of result draft.new ≡ read_sheet text.now }
