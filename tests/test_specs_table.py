@@ -137,7 +137,7 @@ pub enum Kind<'a, T: Copy> {
 pub struct Seen<'a, F: Fn(u64) -> u64, const N: usize> {
     pub held: &'a [u64; N],
     pub with: Pair<F, u64>,
-    pub ghost opens: { (opened_of held.now).number ≡ 0 },
+    pub ghost opens: { ∥ Reached (opened_of held.now) ∥₁ },
 }
 
 // Nobody else can write one.
@@ -542,7 +542,8 @@ class Forms(Made):
             ("G.IsAlwaysCallable test", "G.pre test 1 × (n ≤ 1)", "low::Seen::first can be reached, and asks more"),
             ("G.IsAlwaysCallable test", "(n : ℕ) → G.pre test n → n ≤ 1", "low::Seen::first can be reached, and asks more"),
             ("requires { G.", "requires { low_enough self.now }\n        requires { G.", "low::Seen::first can be reached"),
-            (".number ≡ 0 }", ".number ≤ 0 }", "low::Seen.opens can be reached, and asks more"),
+            ("∥ Reached (opened_of held.now) ∥₁", "opened_of held.now", "low::Seen.opens can be reached, and asks more"),
+            ("(opened_of held.now) ∥₁", "(opened_of held.now) ∥₁ × low_enough 1", "low::Seen.opens can be reached, and asks"),
             ("    items: Vec", "    pub items: Vec", "low::Sealed.small can be reached, and asks more"),
             ("    ghost from_gives = { number_of };\n", "", "low::u64::from can be reached, and says nothing"),
             ("\n        ensures { result ≡ count self.now }", "", "low::Counted::count can be reached, and says nothing"),

@@ -9,8 +9,8 @@ from .items import Item, Items, blanked
 # All that a function in reach of a caller may ask: that a column is reached, and that it may call the closure it is given.
 REACHED = re.compile(r"\{\s*Reached (?:[\w.]+|\([^×⊎→↔∗]*\))\s*\}")
 CALLABLE = re.compile(r"\{\s*(?:\([\w ]+ : [\w ]+\) → )*[A-Z]\w*\.(?:pre|IsAlwaysCallable) [^×⊎→↔∗≡≢≤<]*\}")
-# How a type whose values a caller can write says the same of the column that they make (column/specs/Lent.antt).
-SEEN = re.compile(r"\{\s*(?:∥ Reached [\w. ]+ ∥₁|\((?:opened_of|entered_again) [\w. ]+\)\.\w+ ≡ [\w.]+)\s*\}")
+# How a type whose values a caller can write says the same of the column that they make.
+SEEN = re.compile(r"\{\s*∥ Reached (?:[\w.]+|\([\w. ]+\)) ∥₁\s*\}")
 ASKING = "can_"  # how the ghost members of traits begin that say when a method may be called
 INVARIANT = "invariant"  # the ghost member of `Model` that is a fact of each value
 USED = re.compile(r"pub use (\w+)::(?:\{([\w\s,]*)\}|(\w+))")
