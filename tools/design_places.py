@@ -477,6 +477,7 @@ NO_PLACE = {
         "figure::sums::formula_area": "0 is the area",
         "reduction::rounding::raised": "the last number is one too",
         "trial::columns::new": "says that it cannot be",
+        "newtons::whole_of": "names the case",
     },
     "2": {
         "column::enter_in": "what is alike is that they call two functions",
@@ -491,6 +492,10 @@ NO_PLACE = {
         "column::changing::paste": "one calls the other",
         "column::lent::ColumnRef": "a column, and one that is lent",
         "column::Line": "what is alike is two names",
+        "column::in_place::enter": "one calls the other",
+        "column::in_place::paste": "one calls the other",
+        "column::open: fn with the name of column::open": "a member, and its column",
+        "newtons::Effect: enum like trial_combination::print::Answer": "what is alike is one name",
         "exports::changes::unopened": "what is alike is that they have no lines",
         "figure::any_order::floors_marked": "one marks, one compares with the line before",
         "sheet::steps::open_member: fn like sheet::steps::enter_line, trial::columns::open": "lines of other kinds",
@@ -562,7 +567,7 @@ NO_PLACE = {
             trial_combination::print::write_effect trial_combination::print::print_combined
             trial_combination::print::print_governed reduction::class::try_from trial::answer_all trial::print::fmt
             trial::questions::question_of trial_combination::answer_of trial_combination::doubles::digit
-            trial_combination::print::fmt""".split(),
+            trial_combination::print::fmt newtons::checked""".split(),
             "a match on what there is, whose cases have values of their own",
         ),
     },
