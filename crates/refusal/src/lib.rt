@@ -48,10 +48,3 @@ pub struct Refused<B> {
     pub refusal: Refusal,
     pub back: B,
 }
-
-// The paper's number of a refusal.
-pub fn number(refusal: Refusal) -> u64
-    ensures { result ≡ number_of refusal }
-{
-    refusal.number()
-}
