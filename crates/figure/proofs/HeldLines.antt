@@ -84,6 +84,12 @@ pub figures_most : (s : Shares) (ns : List ℕ) → Lined ns → figures s ns �
 figures_most s ns h = omega (arith, h.0, sum_by-le (λ n. figure_by s (unpacked n)) 10000000000 ns (λ k d q. line_most s.floors s.influence _ (h.1 k d q)))
 
 -- one line more
+pub areas_more : (ns : List ℕ) (i : ℕ) → Lined ns → i < length ns
+    → (areas (take (i + 1) ns) ≡ areas (take i ns) + formula_area (line_at ns i)) × (areas (take i ns) + formula_area (line_at ns i) ≤ 51200000)
+areas_more ns i h k =
+    let more = sum_by_more (λ n. formula_area (unpacked n)) ns i 0 k in
+    (more, omega (arith, more, areas_most (take (i + 1) ns) (lined_take (i + 1) ns h)))
+
 pub figures_more : (s : Shares) (ns : List ℕ) (i : ℕ) → Lined ns → i < length ns
     → (figures s (take (i + 1) ns) ≡ figures s (take i ns) + figure_by s (line_at ns i)) × (figures s (take i ns) + figure_by s (line_at ns i) ≤ 2560000000000)
 figures_more s ns i h k =

@@ -21,16 +21,21 @@ fn formula_area(number: u64) -> u64
     0
 }
 
-// The formula lines' area.
-#[tactic(auto, using(crate::proofs::HeldLines::areas_most))]
+// The formula lines' area. By the sum of an iterator this and the next take longer, and asking 256 lines is above plain
+// Rust, which the loop is not.
+#[tactic(auto, using(crate::proofs::HeldLines::areas_more))]
 pub fn area_of(lines: &[u64]) -> TributaryArea
     requires { Lined lines.now }
     ensures { result.0 ≡ areas lines.now }
 {
-    TributaryArea(lines.iter().map(|line| formula_area(*line)).sum())
+    let mut area: u64 = 0;
+    for line in lines {
+        area += formula_area(*line);
+    }
+    TributaryArea(area)
 }
 
-// The sum of R × area. By the sum of an iterator asking 256 lines takes a twelfth longer, and misses its bar.
+// The sum of R × area.
 #[tactic(auto, using(crate::proofs::HeldLines::figures_more))]
 pub fn figure_of(lines: &[u64], shares: Shares) -> u64
     requires { Lined lines.now }
