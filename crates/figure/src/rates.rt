@@ -100,7 +100,9 @@ pub fn shares_at(member: Member, floors: u64, area: TributaryArea) -> Shares
     }
 }
 
-// R of a formula line by a search. Its class and load are within their limits, so it is never refused.
+// R of a formula line by a search, which few lines need. Its class and load are within their limits, so it is never refused.
+#[cold]
+#[inline(never)]
 fn searched_load(load: u64, shares: Shares) -> u64
     requires { (1 ≤ load) × (load ≤ 5000) }
     ensures { result ≡ formula_load shares load }
