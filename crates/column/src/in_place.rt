@@ -1,5 +1,5 @@
-// Entering and pasting in place, on the column that a member, a count and its lent places make, as C lends it. A struct
-// of the three, with the places behind a `&mut`, would be no plainer: each call would have to say that it keeps the reference.
+// Entering and pasting in place, on the column that a member, a count and its lent places make. C lends the three apart, and
+// but for the methods of a column only its calls come here.
 ghost use Rattle.std.specs.Prelude.{◌≡◌, ◌+◌};
 ghost use Rattle.column.specs.Line.{entries_of};
 ghost use Rattle.column.specs.Accepted.{last_floor};

@@ -36,7 +36,7 @@ pub struct Line {
     pub area: TributaryArea,
 }
 
-// What is known of a member beside its lines.
+// What is known of a member beside its lines. C hands the code over as a number, so any may come; no call takes 0.
 #[repr(C)]
 #[derive(Clone, Copy)]
 pub struct Member {
@@ -52,7 +52,7 @@ pub struct Column {
     pub held: Places,
 }
 
-// The line that a number holds.
+// The line that a number holds. No `From`: then any number would pass for a line, and the way back asks for limits.
 #[tactic(auto, unfolding(crate::specs::Line::unpacked))]
 pub fn line_of(number: u64) -> Line
     ensures { result ≡ unpacked number }

@@ -17,7 +17,7 @@ pub fn number_of(line: Line) -> u64
         + line.area.0
 }
 
-// The floor of the last of so many lines; 0 where there is none.
+// The floor of the last of so many lines; 0 where there is none, which no floor is below, so that no test is needed for it.
 #[tactic(auto, using(crate::proofs::Lines::last_none, crate::proofs::Lines::last_some))]
 pub fn last_floor_of(held: &Places, count: u16) -> u64
     requires { Held held.now count }

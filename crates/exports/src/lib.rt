@@ -1,4 +1,5 @@
-// What programs in C and Rust call, with answers as structs of numbers.
+// What programs in C and Rust call, with answers as structs of numbers. C has no Option and no Result, so the number of a
+// refusal stands first in each, 0 where nothing is refused, and what is not given is 0; a struct is of its own where C's is.
 #![tactic(auto)]
 
 pub mod changes;

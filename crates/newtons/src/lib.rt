@@ -51,7 +51,7 @@ pub fn is_within(newtons: i64) -> bool
     signed::magnitude(newtons) <= LIMIT
 }
 
-// The whole number that a double is, read off its bits: the sign, the exponent and the digits. There is
+// The whole number that a double is, read off its bits, as the papers ask: the sign, the exponent and the digits. There is
 // none where it is 2^53 or more in size, from where on every double is whole and few fit 64 bits.
 pub fn value_of(x: f64) -> Result<Option<i64>, Refusal>
     ensures { said result ≡ held_of (value_of x) }

@@ -12,7 +12,8 @@ use refusal::{Refusal, Refused};
 
 mod entering;
 
-// What opening or asking gave. Lines have the places 1, 2 and so on; the place is 0 where the code or the floor is refused.
+// What opening or asking gave. Lines have the places 1, 2 and so on; the papers have the place 0 where the code or the floor
+// is refused.
 #[tactic(auto, unfolding(crate::specs::Listed::at_place, refusal::specs::Said::said, refusal::specs::Said::told))]
 fn without_place<T>(answer: Result<T, Refusal>) -> Result<T, Refused<u64>>
     ensures { told result ≡ at_place 0 (said answer) }

@@ -47,7 +47,7 @@ pub fn report(text: &[u8], out: &mut [u8; ROOM]) -> Reported
 }
 
 // Puts the line that takedown prints for a refused sheet, of which only the number and the line K are
-// known here, at the front of a buffer; gives how many bytes that is.
+// known here, at the front of a buffer; gives how many bytes that is. It takes any number, as C may hand one over.
 pub fn put_refusal(number: u64, line: u64, out: &mut [u8; ROOM]) -> usize
     ensures value { result ≡ length (refusal_text number line) }
     ensures out_after { out.new ≡ fronted (refusal_text number line) out.old }

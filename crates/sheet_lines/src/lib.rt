@@ -14,7 +14,7 @@ use refusal::Refusal;
 mod number;
 
 // The line that is due on a sheet: the member's, or the effect at a place, dead at 0; before dead a floor
-// line may come, and after the last place nothing is due.
+// line may come, and after the last place nothing is due. A place is an index into the six effects of a sheet.
 #[derive(Clone, Copy)]
 pub enum Due {
     Member,
