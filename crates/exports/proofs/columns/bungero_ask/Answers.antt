@@ -1,7 +1,6 @@
 -- `exports::columns::bungero_ask` meets its contract: a reached column may be lent. Assumes nothing.
 use Rattle.std.proofs.Common.{ap}
 use Rattle.refusal.specs.Said.{said}
-use Rattle.column.specs.declared.Column.{Column}
 use Rattle.exports.specs.Exported.{shown_of}
 use Rattle.exports.proofs.columns.bungero_ask.Goals as goal
 

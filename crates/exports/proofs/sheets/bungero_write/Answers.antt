@@ -1,6 +1,4 @@
 -- `exports::sheets::bungero_write` meets its contract: what writing gives, in numbers alone. Assumes nothing.
-use Rattle.std.proofs.Common.{ap}
-use Rattle.column.specs.declared.Column.{Column}
 use lib.Ieee.{of_bits}
 use Rattle.sheet_writer.proofs.Checks.{written_is, refused_is}
 use Rattle.exports.proofs.sheets.bungero_write.Goals as goal

@@ -1,0 +1,2 @@
+-- Laws of what C and Rust are given.
+pub mod Opened
