@@ -1,5 +1,5 @@
 -- `figure::at_floor::asked_at` meets its contract: each way out picks its case of the definition. Assumes nothing.
-use Rattle.std.proofs.Common.{◌≡◌, ◌∙◌, ℕ, List, map, true, false, Err, rules}
+use Rattle.std.proofs.Common.{◌≡◌, ◌∙◌, arith, ℕ, List, map, true, false, Err, rules}
 use Rattle.refusal.specs.Said.{said, gives}
 use Rattle.refusal.specs.declared.Refusal.TheVariants.{NoLineAtFloor}
 use Rattle.refusal.specs.Refusal.{number_of}
@@ -33,7 +33,7 @@ front c = rw c.in_ok-carried.ensures.ok_part at c.carried_at.ensures
 pub shares_at-shares-requires : goal.shares_at-shares-requires
 shares_at-shares-requires c =
     let f = front (goal.at.shares_at-shares-requires c).After-floors_in_order-floors in
-    ((sound (seen_reached c.args.column)).code, rw c.area_of-area.ensures (areas_most c.in_ok-carried.carried.now f.lined))
+    ((sound (seen_reached c.args.column)).code, omega (arith, c.area_of-area.ensures, areas_most c.in_ok-carried.carried.now f.lined))
 
 pub figure_of-figure-requires : goal.figure_of-figure-requires
 figure_of-figure-requires c = (front (goal.at.figure_of-figure-requires c).After-floors_in_order-floors).lined
