@@ -36,14 +36,10 @@ limited_from [] zs g = gives g
 unfoldable pub governed : List ℤ → Told Load Governing
 governed xs = limited_from loads xs (governing xs)
 
--- 01, Effects and the 25 combinations: "A refused effect comes back with the double as it came": the effect of a load
-unfoldable pub effect_for : PerLoad Float → Load → LoadEffect
-effect_for e l = load_effect l (of_load e l)
-
--- 01, Effects and the 25 combinations: what governs, or a refusal with "the double as it came"
+-- 01, Effects and the 25 combinations: what governs; "A refused effect comes back with the double as it came"
 unfoldable pub with_double : PerLoad Float → Told Load Governing → Told LoadEffect Governing
 with_double e (gives g) = gives g
-with_double e (refused n l) = refused n (effect_for e l)
+with_double e (refused n l) = refused n (load_effect l (of_load e l))
 
 -- 01, Numbers by the place of checking: what governs of effects that are taken, or the first refused
 unfoldable pub combined : PerLoad Float → Told LoadEffect (List ℤ) → Told LoadEffect Governing

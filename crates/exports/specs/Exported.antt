@@ -1,6 +1,6 @@
 -- What the structs of numbers say that are handed to C and Rust, in the terms of the definitions of the crates below.
 -- Assumes nothing.
-use Rattle.std.specs.Prelude.{false, List, [], ◌∷◌, ℕ, ℤ, pos, Float}
+use Rattle.std.specs.Prelude.{false, List, [], ◌∷◌, replicate, ℕ, ℤ, pos, Float}
 use Rattle.std.specs.Float.{fin}
 use Rattle.refusal.specs.Said.{Said, gives, refused, Told}
 use Rattle.figure.specs.declared.Working.{Working}
@@ -10,7 +10,6 @@ use Rattle.combination.specs.declared.Governing.{Governing}
 use Rattle.effects.specs.declared.PerLoad.{PerLoad}
 use Rattle.effects.specs.Check.{place_of}
 use Rattle.exports.specs.declared.checks.BungeroEffects.{BungeroEffects}
-use Rattle.exports.specs.declared.checks.BungeroNewtons.{BungeroNewtons}
 use Rattle.exports.specs.declared.checks.BungeroChecked.{BungeroChecked}
 use Rattle.exports.specs.declared.combinations.BungeroCombined.{BungeroCombined}
 use Rattle.exports.specs.declared.columns.BungeroFigure.{BungeroFigure}
@@ -55,14 +54,6 @@ shown_combined (refused n e) = record { number = n; place = place_of e.load; dou
 unfoldable pub handed_in : BungeroEffects → PerLoad Float
 handed_in e = record { dead = e.dead; live = e.live; roof = e.roof; snow = e.snow; rain = e.rain; wind = e.wind; quake = e.quake }
 
--- 01, Effects and the 25 combinations: the seven in whole newtons, read off the struct that is handed to C and Rust
-unfoldable pub listed_newtons : BungeroNewtons → List ℤ
-listed_newtons n = n.dead ∷ n.live ∷ n.roof ∷ n.snow ∷ n.rain ∷ n.wind ∷ n.quake ∷ []
-
--- No part of the paper: the seven effects where there are none to hand out
-abbrev pub no_newtons : List ℤ
-no_newtons = pos 0 ∷ pos 0 ∷ pos 0 ∷ pos 0 ∷ pos 0 ∷ pos 0 ∷ pos 0 ∷ []
-
 -- 01, Numbers by the place of checking: what the check hands out, its effects "D to E as listed"
 pub record HandedOut : Type 0 where
   pub number : ℕ
@@ -72,9 +63,11 @@ pub record HandedOut : Type 0 where
 
 -- 01, Where each language form belongs: the same, read off the struct that is handed to C and Rust
 unfoldable pub handed_out : BungeroChecked → HandedOut
-handed_out r = record { number = r.number; place = r.place; double = r.double; newtons = listed_newtons r.newtons }
+handed_out r =
+    let n = r.newtons in
+    record { number = r.number; place = r.place; double = r.double; newtons = n.dead ∷ n.live ∷ n.roof ∷ n.snow ∷ n.rain ∷ n.wind ∷ n.quake ∷ [] }
 
 -- 01, Effects and the 25 combinations: the whole newtons with the number 0, or the number, which effect it is, and its double
 unfoldable pub shown_checked : Told LoadEffect (List ℤ) → HandedOut
 shown_checked (gives zs) = record { number = 0; place = 0; double = plus_zero; newtons = zs }
-shown_checked (refused n e) = record { number = n; place = place_of e.load; double = e.double; newtons = no_newtons }
+shown_checked (refused n e) = record { number = n; place = place_of e.load; double = e.double; newtons = replicate 7 (pos 0) }

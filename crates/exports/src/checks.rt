@@ -1,7 +1,7 @@
 // The check of seven effects for programs in C and Rust.
 ghost use Rattle.std.specs.Prelude.{◌≡◌};
-ghost use Rattle.effects.specs.Check.{newtons_of, checked_of};
-ghost use Rattle.exports.specs.Exported.{handed_in, listed_newtons, handed_out, shown_checked};
+ghost use Rattle.effects.specs.Check.{checked_of};
+ghost use Rattle.exports.specs.Exported.{handed_in, handed_out, shown_checked};
 
 use effects::{Effects, Newtons, PerLoad};
 
@@ -49,9 +49,8 @@ impl From<BungeroEffects> for Effects {
 }
 
 impl From<Newtons> for BungeroNewtons {
-    ghost from_gives = { λ newtons given. listed_newtons given ≡ newtons_of newtons };
+    ghost from_gives = { λ n given. given ≡ record { dead = n.dead; live = n.live; roof = n.roof; snow = n.snow; rain = n.rain; wind = n.wind; quake = n.quake } };
 
-    #[tactic(auto, unfolding(crate::specs::Exported::listed_newtons, effects::specs::Check::newtons_of))]
     fn from(newtons: Newtons) -> BungeroNewtons {
         BungeroNewtons {
             dead: newtons.dead,

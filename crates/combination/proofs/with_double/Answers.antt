@@ -8,11 +8,12 @@ use Rattle.effects.specs.declared.Load.{Load}
 use Rattle.effects.specs.declared.LoadEffect.{LoadEffect}
 use Rattle.effects.specs.declared.PerLoad.{PerLoad}
 use Rattle.combination.specs.declared.Governing.{Governing}
-use Rattle.combination.specs.Combine.{effect_for, with_double}
+use Rattle.effects.specs.Check.{load_effect, of_load}
+use Rattle.combination.specs.Combine.{with_double}
 use Rattle.combination.proofs.with_double.Goals as goal
 
 beside : PerLoad Float → Refused Load → Refused LoadEffect
-beside e r = record { refusal = r.refusal; back = effect_for e r.back }
+beside e r = record { refusal = r.refusal; back = load_effect r.back (of_load e r.back) }
 
 told_beside : (e : PerLoad Float) (r : Result Governing (Refused Load)) → told (mapped (beside e) r) ≡ with_double e (told r)
 unfolding told mapped beside with_double
@@ -20,7 +21,7 @@ told_beside e (Ok g) = refl
 told_beside e (Err r) = refl
 
 pub returns : goal.returns
-unfolding beside effect_for
+unfolding beside
 returns c =
     let e = c.args.effects in
     ap told (mapped_is (beside e) _ c.args.governed c.map_err.result (λ r y q. search rules) c.map_err.ensures.cases)
