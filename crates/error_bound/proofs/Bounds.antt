@@ -1,14 +1,7 @@
 -- Which figures are within the bounds of demand 3, told by computing. The bounds' numbers are not said again here, so that a
 -- wrong one is refused here, by an example, before it is at a law: modules are checked in the order of their names.
 -- Assumes nothing.
-use mathlib.Core.Path.{◌≡◌, refl, subst}
-use mathlib.Core.Bool.{Bool, true, false}
-use mathlib.Core.List.{List}
-use mathlib.Core.Logic.{◌⊎◌, inl, inr, ⊎_elim}
-use Prim.Native.Nat.{ℕ, ◌≤◌, ◌<◌}
-use native.Mathlib.Nat.{not-le_of_lt}
-use lib.Dec.{leb, ltb}
-use borrow.Author.Tests.{leb-true, leb-false, ltb-true, ltb-false}
+use Rattle.std.proofs.Common.{◌≡◌, refl, subst, Bool, true, false, List, ◌⊎◌, inl, inr, ⊎_elim, ℕ, ◌≤◌, ◌<◌, not-le_of_lt, leb, ltb, leb-true, leb-false, ltb-true, ltb-false}
 use Rattle.reduction.specs.declared.share.Share.{Share}
 use Rattle.reduction.specs.declared.share.Share.TheVariants.{Twentieths, Root}
 use Rattle.reduction.specs.Share.{one_floor, root_at_least, root_at_most, least_twentieths, formula_share, other_twentieths}

@@ -1,10 +1,7 @@
 -- Demand 3, for every member, every list of entries and every floor.
 -- Assumes nothing.
-use mathlib.Core.Path.{◌≡◌, sym, ◌∙◌, ap, subst, subst⁻¹}
-use mathlib.Core.Bool.{true}
-use mathlib.Core.List.{List}
-use Prim.Native.Nat.{ℕ, ◌≤◌}
-use native.Mathlib.Omega.{arith}
+use Rattle.std.proofs.Common.{◌≡◌, sym, ◌∙◌, ap, subst, true, List, ℕ, ◌≤◌, arith}
+use mathlib.Core.Path.{subst⁻¹}
 use Rattle.refusal.specs.Said.{Said, refused, nothing}
 use Rattle.refusal.proofs.Said.{not_zero}
 use Rattle.lists.specs.Lists.{All}

@@ -1,6 +1,6 @@
 -- The figures that paper 01 prints for two columns hold, and the other tables of examples.
 -- Assumes nothing.
-use mathlib.Core.Path.{refl}
+use Rattle.std.proofs.Common.{refl}
 use Rattle.reduction.specs.Least.{least_from}
 use Rattle.lists.specs.Lists.{All, none, more, keep, some, total}
 use Rattle.member.specs.Member.{table4_2, table_factor}

@@ -1,12 +1,8 @@
 -- Sums of comparisons with a square root, made on squares: x g² against u² stands for g √x against u.
 -- Assumes nothing.
-use mathlib.Core.Path.{◌≡◌, sym, ◌∙◌, ap}
-use mathlib.Core.Logic.{◌⊎◌, inl, inr}
-use Prim.Native.Nat.{ℕ, ◌+◌, ◌*◌, ◌-◌, ◌≤◌, ◌<◌}
-use native.Mathlib.Nat.{mul_comm, mul-add, add-mul, mul-mul-mul_comm, mul-le-mul, mul-le-mul_left, mul-lt-mul_of_pos_right}
-use native.Mathlib.Nat.{le_of_lt, lt_of_lt_of_le, lt_of_le_of_lt, lt_of_not-le}
+use Rattle.std.proofs.Common.{◌≡◌, sym, ◌∙◌, ap, ◌⊎◌, inl, inr, ℕ, ◌+◌, ◌*◌, ◌-◌, ◌≤◌, ◌<◌, mul_comm, mul-add, add-mul, mul-le-mul, mul-le-mul_left, mul-lt-mul_of_pos_right, le_of_lt, lt_of_lt_of_le, lt_of_le_of_lt, lt_of_not-le, arith}
+use native.Mathlib.Nat.{mul-mul-mul_comm}
 use native.Mathlib.Decide.{dec_le}
-use native.Mathlib.Omega.{arith}
 use Rattle.reduction.specs.Least.{sq}
 use Rattle.reduction.proofs.Squares.{sq_le, sq_le⁻¹, sq_lt⁻¹}
 

@@ -1,13 +1,7 @@
 -- Laws of the factor K.
 -- Assumes nothing.
-use mathlib.Core.Path.{◌≡◌, refl, ap}
-use mathlib.Core.Bool.{Bool, true, ◌&&◌, and-eq-true_iff}
-use mathlib.Core.List.{List, [], ◌∷◌}
-use Prim.Native.Nat.{ℕ, zero, suc, ◌-◌, ◌≤◌}
-use native.Mathlib.Omega.{arith}
-use lib.Dec.{leb}
-use lib.ListN.{get_or}
-use borrow.Author.Tests.{leb-true}
+use Rattle.std.proofs.Common.{◌≡◌, refl, ap, Bool, true, ◌&&◌, List, [], ◌∷◌, ℕ, zero, suc, ◌-◌, ◌≤◌, arith, leb, get_or, leb-true}
+use mathlib.Core.Bool.{and-eq-true_iff}
 use Rattle.refusal.specs.Said.{gives}
 use Rattle.member.specs.Between.{between}
 use Rattle.member.specs.Member.{table4_2, table_factor, factor_of}

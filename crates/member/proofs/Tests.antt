@@ -1,10 +1,7 @@
 -- What the answer of a test that was called says of the numbers.
 -- Assumes nothing.
-use mathlib.Core.Path.{◌≡◌, sym, ◌∙◌}
-use mathlib.Core.Bool.{Bool, true, false, and-eq-true_iff}
-use Prim.Native.Nat.{ℕ, ◌≤◌}
-use borrow.Author.Tests.{leb-true, le-leb}
-use lib.Dec.{leb}
+use Rattle.std.proofs.Common.{◌≡◌, sym, ◌∙◌, Bool, true, false, ℕ, ◌≤◌, leb-true, le-leb, leb}
+use mathlib.Core.Bool.{and-eq-true_iff}
 use Rattle.member.specs.Between.{between}
 
 -- a call b of the test t, and the branch on it that was taken

@@ -1,13 +1,7 @@
 -- From the value of a double to what is handed on and to the effect, and what an effect that is given keeps. Assumes nothing.
-use mathlib.Core.Path.{◌≡◌, refl, sym, ap, ◌∙◌, subst}
-use mathlib.Core.Bool.{Bool, true, false, cond}
-use Prim.Native.Nat.{ℕ, ◌^◌, ◌≤◌, ◌<◌}
-use native.Mathlib.Omega.{arith}
-use lib.Dec.{T, leb, ltb, leb→le}
-use lib.IntN.{ℤ, nat_abs}
-use lib.Ieee.{Float}
+use Rattle.std.proofs.Common.{◌≡◌, refl, sym, ap, ◌∙◌, subst, Bool, true, false, cond, ℕ, ◌^◌, ◌≤◌, ◌<◌, arith, T, leb, ltb, leb→le, ℤ, nat_abs, Float, le-leb, lt-ltb, le-ltb, ltb-false}
 use Rattle.std.specs.Prelude.{Option, Some, None}
-use borrow.Author.Tests.{le-leb, lt-leb, lt-ltb, le-ltb, ltb-false}
+use borrow.Author.Tests.{lt-leb}
 use Rattle.refusal.specs.Said.{Told, Said, gives, refused, nothing}
 use Rattle.newtons.specs.Effect.{Value, whole, not_whole, signed, value_of, held_of, limit, within, limited, effect_of}
 use Rattle.newtons.proofs.Word.{size_neg}

@@ -1,19 +1,12 @@
 -- The value of a double, from the fields of its bits, and back from a whole number. Assumes nothing.
-use mathlib.Core.Path.{◌≡◌, refl, sym, ap, ◌∙◌, subst}
-use mathlib.Core.Bool.{Bool, true, false, cond}
-use Prim.Native.Nat.{ℕ, zero, suc, ◌+◌, ◌-◌, ◌*◌, ◌/◌, ◌%◌, ◌^◌, ◌≤◌, ◌<◌}
-use native.Mathlib.Nat.{zero-lt-suc, mod-lt, mod-eq_of_lt, mod-one, div-one, lt_of_lt_of_le, mul-le-mul, mul_assoc, mul_right_comm, mul-one, add-zero, div-add-mod', mul-mod_left, eq_of_mul-eq-mul_right}
-use native.Mathlib.Omega.{arith}
-use lib.Dec.{T, leb, eqb, eqb→eq, le→leb, lt→ltb, lit<, lit≤}
-use lib.IntN.{ℤ, pos, negsuc, nat_abs}
-use lib.Pow.{pow_pos, pow-add, pow_mono}
-use lib.Ieee.{Float, nan, inf, fin, binary64, up, down, odd, of_fields, of_bits, to_bits, fits, is_nan, in_float, of_int, round}
+use Rattle.std.proofs.Common.{◌≡◌, refl, sym, ap, ◌∙◌, subst, Bool, true, false, cond, ℕ, zero, suc, ◌+◌, ◌-◌, ◌*◌, ◌/◌, ◌%◌, ◌^◌, ◌≤◌, ◌<◌, zero-lt-suc, mod-lt, mod-eq_of_lt, div-one, lt_of_lt_of_le, mul-le-mul, mul_assoc, mul_right_comm, mul-one, add-zero, div-add-mod', arith, T, leb, eqb, eqb→eq, le→leb, lt→ltb, lit<, lit≤, ℤ, pos, negsuc, nat_abs, pow_pos, pow-add, pow_mono, Float, to_bits, eq-eqb, ne_eqb}
+use native.Mathlib.Nat.{mod-one, mul-mod_left, eq_of_mul-eq-mul_right}
+use lib.Ieee.{nan, inf, fin, binary64, up, down, odd, of_fields, of_bits, fits, is_nan, in_float, of_int, round}
 use lib.Ieee.Fits.{down_pos}
 use lib.Ieee.Nearest.{div_same}
 use lib.Ieee.Bits.{of_bits-to_bits}
 use lib.Ieee.Back.{round_whole}
 use lib.Ieee.Exact.{HasValue, odd_sign}
-use borrow.Author.Tests.{eq-eqb, ne_eqb}
 use Rattle.newtons.specs.Effect.{whole, not_whole, signed, fraction, value_of}
 
 -- ---- equal fractions have one value

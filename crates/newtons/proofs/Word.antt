@@ -1,12 +1,6 @@
 -- The size of a number, and those that a word of 64 bits keeps. Assumes nothing.
-use mathlib.Core.Path.{◌≡◌, refl}
-use Prim.Native.Nat.{ℕ, zero, suc, ◌^◌, ◌≤◌, ◌<◌}
-use native.Mathlib.Nat.{le_refl, lt_of_le_of_lt}
-use native.Mathlib.Omega.{arith}
-use lib.IntN.{ℤ, pos, negsuc, neg_ℤ, nat_abs}
+use Rattle.std.proofs.Common.{◌≡◌, refl, ℕ, zero, suc, ◌^◌, ◌≤◌, ◌<◌, le_refl, lt_of_le_of_lt, arith, ℤ, pos, negsuc, neg_ℤ, nat_abs, w64, SFits, to_z, of_z}
 use lib.Signed.{mag}
-use mir.Syntax.{w64}
-use mir.Val.{SFits, to_z, of_z}
 use mir.ValLaws.{to_z-of_z}
 
 -- ---- the size of a number, and those that 64 bits keep

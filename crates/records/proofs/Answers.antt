@@ -1,15 +1,8 @@
 -- The list call gives what opening the member, entering the lines and asking give, and its figure is within the bounds.
 -- Assumes nothing.
-use mathlib.Core.Path.{◌≡◌, refl, sym, ◌∙◌, ap, subst⁻¹}
-use mathlib.Core.Bool.{Bool, true, false, cond, ◌||◌}
-use mathlib.Core.List.{List, [], ◌∷◌, ◌++◌, append-nil}
-use mathlib.Core.Logic.{◌⊎◌, inl, inr}
-use Prim.Native.Nat.{ℕ, ◌+◌, ◌≤◌}
-use native.Mathlib.Omega.{arith}
-use lib.Dec.{eqb}
-use lib.ListN.{length}
+use Rattle.std.proofs.Common.{◌≡◌, refl, sym, ◌∙◌, ap, Bool, true, false, cond, ◌||◌, List, [], ◌∷◌, ◌++◌, append-nil, ◌⊎◌, inl, inr, ℕ, ◌+◌, ◌≤◌, arith, eqb, length, ne_eqb}
+use mathlib.Core.Path.{subst⁻¹}
 use lib.Seq.{append_snoc}
-use borrow.Author.Tests.{ne_eqb}
 use Rattle.lists.proofs.Tests.{cases}
 use Rattle.refusal.specs.Said.{Told, gives, refused, nothing}
 use Rattle.refusal.proofs.Said.{by_number, not_zero}

@@ -1,6 +1,6 @@
 -- What the call over a list gives in the examples holds.
 -- Assumes nothing.
-use mathlib.Core.Path.{refl}
+use Rattle.std.proofs.Common.{refl}
 use Rattle.lists.specs.Lists.{All, none, more, keep, some, total}
 use Rattle.reduction.specs.Least.{least_from}
 use Rattle.member.specs.Member.{table4_2, table_factor}

@@ -1,11 +1,6 @@
 -- Lines entered in place, each on what the one before it left: the answer after them is that of the list.
 -- Assumes nothing.
-use mathlib.Core.Path.{◌≡◌, refl, sym, ◌∙◌, ap}
-use mathlib.Core.Bool.{Bool, cond}
-use mathlib.Core.List.{List, [], ◌∷◌, ◌++◌}
-use Prim.Native.Nat.{ℕ, ◌+◌, ◌≤◌}
-use lib.Dec.{eqb}
-use lib.ListN.{length}
+use Rattle.std.proofs.Common.{◌≡◌, refl, sym, ◌∙◌, ap, Bool, cond, List, [], ◌∷◌, ◌++◌, ℕ, ◌+◌, ◌≤◌, eqb, length}
 use Rattle.refusal.specs.Said.{Told, refused}
 use Rattle.refusal.proofs.Said.{by_number, not_zero}
 use Rattle.member.proofs.Tests.{limits}

@@ -1,7 +1,6 @@
 -- The number of a class of use is 1 to 3.
 -- Assumes nothing.
-use mathlib.Core.Path.{◌≡◌, refl}
-use mathlib.Core.Bool.{true}
+use Rattle.std.proofs.Common.{◌≡◌, refl, true}
 use Rattle.member.specs.Between.{between}
 use Rattle.reduction.specs.declared.class.Class.{Class}
 use Rattle.reduction.specs.declared.class.Class.TheVariants.{Ordinary, Garage, Assembly}

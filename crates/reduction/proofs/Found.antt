@@ -1,12 +1,8 @@
 -- What going down from above finds: the scale, and the reduced load above the last number that does not reach.
 -- Assumes nothing.
-use mathlib.Core.Path.{◌≡◌, sym, ◌∙◌, ap}
-use mathlib.Core.Bool.{true, false, false≢true}
-use Prim.Native.Nat.{ℕ, ◌+◌, ◌≤◌, ◌<◌}
-use native.Mathlib.Nat.{le_refl, le_antisymm, lt_of_not-le}
+use Rattle.std.proofs.Common.{◌≡◌, sym, ◌∙◌, ap, true, false, ℕ, ◌+◌, ◌≤◌, ◌<◌, le_refl, le_antisymm, lt_of_not-le, arith, leb-true, le-leb}
+use mathlib.Core.Bool.{false≢true}
 use native.Mathlib.Decide.{dec_le}
-use native.Mathlib.Omega.{arith}
-use borrow.Author.Tests.{leb-true, le-leb}
 use Rattle.std.specs.Prelude.{Option, None, Some, MatchOption}
 use Rattle.std.specs.Option.{unwrap_or}
 use Rattle.reduction.specs.declared.InfluenceArea.{InfluenceArea}

@@ -1,11 +1,6 @@
 -- The search finds a number that passes its test, and none before it does.
 -- Assumes nothing.
-use mathlib.Core.Path.{◌≡◌, refl}
-use mathlib.Core.Bool.{Bool, true, false}
-use mathlib.Core.Logic.{⊎_elim}
-use Prim.Native.Nat.{ℕ, zero, suc, ◌+◌, ◌≤◌, ◌<◌}
-use native.Mathlib.Nat.{add-zero, add-suc, suc-add, eq-or-lt_of_le}
-use native.Mathlib.Omega.{arith}
+use Rattle.std.proofs.Common.{◌≡◌, refl, Bool, true, false, ⊎_elim, ℕ, zero, suc, ◌+◌, ◌≤◌, ◌<◌, add-zero, add-suc, suc-add, eq-or-lt_of_le, arith}
 use Rattle.reduction.specs.Least.{least_from}
 
 found_go : (p : ℕ → Bool) (k d : ℕ) (b : Bool) → p k ≡ b → p (least_from p (suc k) d) ≡ true

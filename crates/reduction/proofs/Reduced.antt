@@ -1,12 +1,8 @@
 -- Laws of the reduced load: it reaches, nothing below it does, and it is at most the load.
 -- Assumes nothing.
-use mathlib.Core.Path.{◌≡◌, refl, sym, ◌∙◌}
-use mathlib.Core.Bool.{Bool, true, false, ◌&&◌, ◌||◌, and-eq-true_iff, false≢true}
-use Prim.Native.Nat.{ℕ, ◌*◌, ◌-◌, ◌≤◌, ◌<◌}
-use native.Mathlib.Nat.{mul-le-mul_left, mul-le-mul_right, zero-add, le_refl, le_trans, lt_of_not-le}
+use Rattle.std.proofs.Common.{◌≡◌, refl, sym, ◌∙◌, Bool, true, false, ◌&&◌, ◌||◌, ℕ, ◌*◌, ◌-◌, ◌≤◌, ◌<◌, mul-le-mul_left, mul-le-mul_right, zero-add, le_refl, le_trans, lt_of_not-le, arith, leb-true, le-leb}
+use mathlib.Core.Bool.{and-eq-true_iff, false≢true}
 use native.Mathlib.Decide.{dec_le}
-use native.Mathlib.Omega.{arith}
-use borrow.Author.Tests.{leb-true, le-leb}
 use Rattle.refusal.specs.Said.{gives}
 use Rattle.reduction.specs.declared.InfluenceArea.{InfluenceArea}
 use Rattle.reduction.specs.declared.share.Share.{Share}

@@ -1,16 +1,12 @@
 -- The scale is the root's, rounded down; and where it and one more give the same load, rounded up, that is the reduced load.
 -- Assumes nothing.
+use Rattle.std.proofs.Common.{◌≡◌, refl, sym, ◌∙◌, ap, Bool, true, ℕ, zero, suc, ◌+◌, ◌*◌, ◌-◌, ◌/◌, ◌^◌, ◌≤◌, ◌<◌, mul_assoc, mul_comm, add-mul, mul-zero, mul-le-mul, mul-le-mul_left, mul-le-mul_right, le_refl, le_trans, le_of_lt, not-le_of_lt, lt_of_not-le, le_antisymm, add-one, arith, ltb, leb-true, le-leb, ltb-true, ltb-false, lt-ltb}
 use Rattle.std.specs.Prelude.{None, Some, IsSome}
-use mathlib.Core.Path.{◌≡◌, refl, sym, ◌∙◌, ap, subst⁻¹}
-use mathlib.Core.Bool.{Bool, true, and-eq-true_iff}
-use Prim.Native.Nat.{ℕ, zero, suc, ◌+◌, ◌*◌, ◌-◌, ◌/◌, ◌^◌, ◌≤◌, ◌<◌}
-use native.Mathlib.Nat.{mul_assoc, mul_comm, add-mul, mul-zero, mul-le-mul, mul-le-mul_left, mul-le-mul_right, le_of_mul-le-mul_left}
-use native.Mathlib.Nat.{le_refl, le_trans, le_of_lt, not-le_of_lt, lt_of_not-le, le_antisymm, lt-mul-div-succ}
-use native.Mathlib.Numerals.{add-one}
+use mathlib.Core.Path.{subst⁻¹}
+use mathlib.Core.Bool.{and-eq-true_iff}
+use native.Mathlib.Nat.{le_of_mul-le-mul_left}
+use native.Mathlib.Nat.{lt-mul-div-succ}
 use native.Mathlib.Decide.{dec_le}
-use native.Mathlib.Omega.{arith}
-use lib.Dec.{ltb}
-use borrow.Author.Tests.{leb-true, le-leb, ltb-true, ltb-false, lt-ltb}
 use Rattle.reduction.specs.declared.InfluenceArea.{InfluenceArea}
 use Rattle.reduction.specs.declared.share.Share.{Share}
 use Rattle.reduction.specs.declared.share.Share.TheVariants.{Twentieths, Root}

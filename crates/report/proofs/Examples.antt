@@ -1,6 +1,6 @@
 -- What takedown prints for paper 01's sample sheet, and for refused sheets, by computing it.
 -- Assumes nothing.
-use mathlib.Core.Path.{refl}
+use Rattle.std.proofs.Common.{refl}
 use Rattle.text.specs.Text.{joined, last_digit, digits_in, decimal, signed_parts}
 use Rattle.text.specs.Lines.{text_of, with_byte, split}
 use Rattle.lists.specs.Lists.{All, none, more, keep, some, total}

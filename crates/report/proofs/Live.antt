@@ -1,13 +1,6 @@
 -- The seven effects of a sheet: the live effect is that of the column, and all are within the limit, so 64 bits keep them.
 -- Assumes nothing.
-use mathlib.Core.Path.{◌≡◌, refl}
-use mathlib.Core.List.{List}
-use Prim.Native.Nat.{ℕ, ◌≤◌}
-use native.Mathlib.Omega.{arith}
-use lib.Dec.{lit<}
-use lib.IntN.{ℤ, pos, nat_abs}
-use mir.Syntax.{w64}
-use mir.Val.{to_z, of_z}
+use Rattle.std.proofs.Common.{◌≡◌, refl, List, ℕ, ◌≤◌, arith, lit<, ℤ, pos, nat_abs, w64, to_z, of_z}
 use Rattle.lists.specs.Lists.{none, more}
 use Rattle.lists.proofs.Lists.{all_at}
 use Rattle.column.specs.declared.Column.{Column}

@@ -1,14 +1,9 @@
 -- Reading keeps the limits: line by line, and so for a whole sheet.
 -- Assumes nothing.
-use mathlib.Core.Path.{◌≡◌, refl, ◌∙◌, subst, subst⁻¹}
-use mathlib.Core.Bool.{Bool, true, false, cond, false≢true}
-use mathlib.Core.List.{List, [], ◌∷◌}
-use Prim.Native.Nat.{ℕ, ◌+◌, ◌≤◌, ◌<◌}
-use native.Mathlib.Omega.{arith}
-use lib.Dec.{leb, ltb, eqb}
-use lib.IntN.{ℤ, pos}
-use lib.ListN.{length, get_or, length-set}
-use borrow.Author.Tests.{leb-true, eqb-true, eqb-false, ne_eqb}
+use Rattle.std.proofs.Common.{◌≡◌, refl, ◌∙◌, subst, Bool, true, false, cond, List, [], ◌∷◌, ℕ, ◌+◌, ◌≤◌, ◌<◌, arith, leb, ltb, eqb, ℤ, pos, length, get_or, length-set, leb-true, eqb-true, ne_eqb}
+use mathlib.Core.Path.{subst⁻¹}
+use mathlib.Core.Bool.{false≢true}
+use borrow.Author.Tests.{eqb-false}
 use Rattle.lists.proofs.Lists.{all_set, all_same, all_at}
 use Rattle.column.specs.Column.{member_of, unopened, Reached}
 use Rattle.column.proofs.Reach.{reached_opened, reached_entered}

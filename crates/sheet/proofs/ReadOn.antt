@@ -1,14 +1,7 @@
 -- Reading a text from a place on: at its end, at a line that lacks its newline, and at a line that has one.
 -- Assumes nothing.
-use mathlib.Core.Path.{◌≡◌, ap, subst⁻¹}
-use mathlib.Core.Bool.{Bool, true, false, cond}
-use mathlib.Core.List.{List, [], ◌∷◌, ◌++◌}
-use Prim.Native.Nat.{ℕ, ◌+◌, ◌-◌, ◌<◌, ◌≤◌}
-use native.Mathlib.Omega.{arith}
-use lib.Dec.{eqb, ltb}
-use lib.ListN.{length, drop, take, drop_of_length-le, length-drop, length-append}
-use lib.Seq.{length-take-le}
-use borrow.Author.Tests.{le-ltb}
+use Rattle.std.proofs.Common.{◌≡◌, ap, Bool, true, false, cond, List, [], ◌∷◌, ◌++◌, ℕ, ◌+◌, ◌-◌, ◌<◌, ◌≤◌, arith, eqb, ltb, length, drop, take, drop_of_length-le, length-drop, length-append, length-take-le, le-ltb}
+use mathlib.Core.Path.{subst⁻¹}
 use Rattle.sheet.specs.declared.Reading.{Reading}
 use Rattle.text.specs.Lines.{ended, Lines, line, rest, split, end_from}
 use Rattle.sheet.specs.declared.steps.Draft.{Draft}

@@ -1,20 +1,12 @@
 -- One step of each definition that goes over bytes, at a place of a line; how large a number is and where it ends; and what begins with a key.
 -- Assumes nothing.
-use mathlib.Core.Path.{◌≡◌, refl, sym, ◌∙◌, ap, ap₂, subst}
-use mathlib.Core.Bool.{Bool, true, false, cond, ◌&&◌, false≢true}
-use mathlib.Core.List.{List, [], ◌∷◌, ◌++◌}
-use Prim.Native.Nat.{ℕ, zero, suc, ◌+◌, ◌-◌, ◌*◌, ◌^◌, ◌<◌, ◌≤◌}
-use native.Mathlib.Omega.{arith}
-use native.Mathlib.Numerals.{add-one}
-use native.Mathlib.Nat.{pow-suc, pow-le-pow_right}
-use lib.ListN.{length, take, drop, get_or, drop_of_length-le, length-append, length-drop}
-use lib.Seq.{drop-cons}
+use mathlib.Core.Bool.{false≢true}
+use native.Mathlib.Nat.{pow-le-pow_right}
 use lib.Pointwise.{pointwise}
-use lib.Dec.{ltb, eqb, lit≤}
-use borrow.Author.Tests.{lt-ltb, le-ltb, eq-eqb, ne_eqb, eqb-true, eqb-false, ltb-true}
+use borrow.Author.Tests.{eqb-false}
 use Rattle.std.specs.Prelude.{Option, Some, None, slice_get}
 use Rattle.std.specs.List.{starts_with}
-use Rattle.std.proofs.Common.{inl, inr}
+use Rattle.std.proofs.Common.{inl, inr, ◌≡◌, refl, sym, ◌∙◌, ap, ap₂, subst, Bool, true, false, cond, ◌&&◌, List, [], ◌∷◌, ◌++◌, ℕ, zero, suc, ◌+◌, ◌-◌, ◌*◌, ◌^◌, ◌<◌, ◌≤◌, arith, add-one, pow-suc, length, take, drop, get_or, drop_of_length-le, length-append, length-drop, drop-cons, ltb, eqb, lit≤, lt-ltb, le-ltb, eq-eqb, ne_eqb, eqb-true, ltb-true}
 use Rattle.std.specs.Char.{IsNotAsciiDigit}
 use Rattle.sheet_lines.specs.declared.number.Read.{Read}
 use Rattle.sheet_lines.specs.Number.{may_grow, number_ended, number_from, begins}

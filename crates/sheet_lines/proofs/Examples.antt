@@ -1,6 +1,6 @@
 -- The sample's lines say what the paper's sample says, and others have not the form, by computing it.
 -- Assumes nothing.
-use mathlib.Core.Path.{refl}
+use Rattle.std.proofs.Common.{refl}
 use Rattle.lists.specs.Lists.{All, none, more}
 use Rattle.refusal.specs.Refusal.{number_of}
 use Rattle.newtons.specs.Effect.{signed}

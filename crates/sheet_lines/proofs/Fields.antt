@@ -1,14 +1,8 @@
 -- Numbers behind their keys are read where they are written, and nowhere else, for any list of keys.
 -- Assumes nothing.
-use mathlib.Core.Path.{◌≡◌, refl, sym, ◌∙◌, ap}
-use mathlib.Core.Bool.{Bool, true, false, cond, false≢true}
-use mathlib.Core.List.{List, [], ◌∷◌, ◌++◌, append_assoc, append-nil}
-use Prim.Native.Nat.{ℕ, suc, ◌+◌, ◌≤◌, ◌<◌}
-use native.Mathlib.Omega.{arith}
-use lib.Dec.{eqb, ltb}
-use lib.ListN.{length, drop, drop_of_length-le, length-append, length-drop}
-use lib.Seq.{drop-drop, drop-append_seam}
-use borrow.Author.Tests.{eq-eqb, eqb-true, ltb-true}
+use Rattle.std.proofs.Common.{◌≡◌, refl, sym, ◌∙◌, ap, Bool, true, false, cond, List, [], ◌∷◌, ◌++◌, append_assoc, append-nil, ℕ, suc, ◌+◌, ◌≤◌, ◌<◌, arith, eqb, ltb, length, drop, drop_of_length-le, length-append, length-drop, drop-drop, eq-eqb, eqb-true, ltb-true}
+use mathlib.Core.Bool.{false≢true}
+use lib.Seq.{drop-append_seam}
 use Rattle.text.specs.Text.{decimal}
 use Rattle.lists.specs.Lists.{All, none as nil, more}
 use Rattle.std.specs.Prelude.{Option, Some, None}

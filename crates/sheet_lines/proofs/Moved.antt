@@ -1,16 +1,8 @@
 -- What is read from a place of a line on is what is read at the start of the rest, with its places counted from there.
 -- Assumes nothing.
-use mathlib.Core.Path.{◌≡◌, refl, sym, ◌∙◌, ap}
-use mathlib.Core.Bool.{Bool, true, false, cond, ◌&&◌}
-use mathlib.Core.List.{List, [], ◌∷◌, ◌++◌}
-use Prim.Native.Nat.{ℕ, ◌+◌, ◌-◌, ◌*◌, ◌≤◌}
-use native.Mathlib.Omega.{arith}
-use native.Mathlib.Nat.{add_assoc, add-zero, zero-add}
-use lib.Dec.{eqb, ltb}
+use Rattle.std.proofs.Common.{◌≡◌, refl, sym, ◌∙◌, ap, Bool, true, false, cond, ◌&&◌, List, [], ◌∷◌, ◌++◌, ℕ, ◌+◌, ◌-◌, ◌*◌, ◌≤◌, arith, add_assoc, add-zero, zero-add, eqb, ltb, length, take, drop, length-drop, drop-drop, eq-eqb, ne_eqb, eqb-true}
 use lib.Pointwise.{pointwise}
-use lib.ListN.{length, take, drop, length-drop}
-use lib.Seq.{drop-drop}
-use borrow.Author.Tests.{eq-eqb, ne_eqb, eqb-true, eqb-false}
+use borrow.Author.Tests.{eqb-false}
 use Rattle.std.specs.Prelude.{Option, Some, None, option_map}
 use Rattle.sheet_lines.specs.declared.number.Read.{Read}
 use Rattle.sheet_lines.specs.declared.Form.{Form}

@@ -1,14 +1,8 @@
 -- A number is read where its decimal digits are written, and nowhere else.
 -- Assumes nothing.
-use mathlib.Core.Path.{◌≡◌, refl, ◌∙◌, ap}
-use mathlib.Core.Bool.{Bool, true, false, cond}
-use mathlib.Core.List.{List, [], ◌∷◌, ◌++◌, append_assoc}
-use Prim.Native.Nat.{ℕ, zero, suc, ◌+◌, ◌-◌, ◌*◌, ◌/◌, ◌%◌, ◌^◌, ◌≤◌, ◌<◌}
-use native.Mathlib.Omega.{arith}
-use lib.Dec.{ltb, eqb}
-use lib.ListN.{length, drop, length-append}
-use lib.Seq.{drop-drop, drop-append_seam}
-use borrow.Author.Tests.{lt-ltb, le-ltb, ne_eqb, eqb-false, ltb-true, ltb-false}
+use Rattle.std.proofs.Common.{◌≡◌, refl, ◌∙◌, ap, Bool, true, false, cond, List, [], ◌∷◌, ◌++◌, append_assoc, ℕ, zero, suc, ◌+◌, ◌-◌, ◌*◌, ◌/◌, ◌%◌, ◌^◌, ◌≤◌, ◌<◌, arith, ltb, eqb, length, drop, length-append, drop-drop, lt-ltb, le-ltb, ne_eqb, ltb-true, ltb-false}
+use lib.Seq.{drop-append_seam}
+use borrow.Author.Tests.{eqb-false}
 use Rattle.text.specs.Text.{decimal}
 use Rattle.text.proofs.Decimal.{decimal_small, decimal_more, length_some, length_most, tenth}
 use Rattle.std.specs.Prelude.{Option, Some, None, option_map, unwrap_or}

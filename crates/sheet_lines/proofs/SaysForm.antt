@@ -1,15 +1,10 @@
 -- A line has its form exactly where its text says so.
 -- Assumes nothing.
-use mathlib.Core.Path.{◌≡◌, refl, sym, ◌∙◌, ap, subst, subst⁻¹}
-use mathlib.Core.Bool.{Bool, true, false, cond, ◌&&◌, false≢true}
-use mathlib.Core.List.{List, [], ◌∷◌, ◌++◌, append_assoc, append-nil}
-use Prim.Native.Nat.{ℕ, zero, suc, ◌+◌, ◌<◌}
-use native.Mathlib.Omega.{arith}
-use lib.Dec.{eqb, ltb}
-use lib.ListN.{length, drop, drop_of_length-le, length-drop}
-use lib.Seq.{drop-drop, drop-append_seam, drop-append-add}
-use lib.IntN.{ℤ, pos, negsuc, nat_abs}
-use borrow.Author.Tests.{eq-eqb, ne_eqb, lt-ltb, eqb-true, eqb-false, ltb-true}
+use Rattle.std.proofs.Common.{◌≡◌, refl, sym, ◌∙◌, ap, subst, Bool, true, false, cond, ◌&&◌, List, [], ◌∷◌, ◌++◌, append_assoc, append-nil, ℕ, zero, suc, ◌+◌, ◌<◌, arith, eqb, ltb, length, drop, drop_of_length-le, length-drop, drop-drop, ℤ, pos, negsuc, nat_abs, eq-eqb, ne_eqb, lt-ltb, eqb-true, ltb-true}
+use mathlib.Core.Path.{subst⁻¹}
+use mathlib.Core.Bool.{false≢true}
+use lib.Seq.{drop-append_seam, drop-append-add}
+use borrow.Author.Tests.{eqb-false}
 use Rattle.lists.specs.Lists.{All, none as nil, more}
 use Rattle.lists.proofs.Lists.{by_places}
 use Rattle.text.specs.Text.{minus, decimal, signed_decimal}

@@ -1,15 +1,7 @@
 -- Lines that say a sheet that keeps the limits are read as that sheet: each is taken in turn.
 -- Assumes nothing.
-use mathlib.Core.Path.{◌≡◌, refl, sym, ◌∙◌, ap, subst⁻¹}
-use mathlib.Core.Bool.{true}
-use mathlib.Core.List.{List, [], ◌∷◌, ◌++◌, append-nil, append_assoc, map}
-use Prim.Native.Nat.{ℕ, zero, suc, ◌+◌, ◌*◌, ◌≤◌, ◌<◌}
-use native.Mathlib.Omega.{arith}
-use native.Mathlib.Numerals.{add-one}
-use lib.IntN.{ℤ, pos}
-use lib.ListN.{length, take, drop, set, get_or, replicate, length-append, length-drop}
-use lib.Seq.{take_all, length-take-le}
-use borrow.Author.Tests.{le-leb, le-ltb}
+use Rattle.std.proofs.Common.{◌≡◌, refl, sym, ◌∙◌, ap, true, List, [], ◌∷◌, ◌++◌, append-nil, append_assoc, map, ℕ, zero, suc, ◌+◌, ◌*◌, ◌≤◌, ◌<◌, arith, add-one, ℤ, pos, length, take, drop, set, get_or, replicate, length-append, length-drop, take_all, length-take-le, le-leb, le-ltb}
+use mathlib.Core.Path.{subst⁻¹}
 use Rattle.member.specs.Between.{between}
 use Rattle.member.proofs.Tests.{limits}
 use Rattle.lists.specs.Lists.{none as nil, more as and}

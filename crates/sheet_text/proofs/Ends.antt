@@ -1,14 +1,9 @@
 -- Reading a text ends with the sheet that it says, or stops at the first fault.
 -- Assumes nothing.
-use mathlib.Core.Path.{◌≡◌, refl, sym, ◌∙◌, ap, subst⁻¹}
-use mathlib.Core.Bool.{Bool, true, false, cond, false≢true}
-use mathlib.Core.List.{List, [], ◌∷◌, ◌++◌, append-nil, append_assoc}
-use Prim.Native.Nat.{ℕ, ◌+◌, ◌≤◌, ◌<◌}
-use native.Mathlib.Omega.{arith}
-use lib.Dec.{eqb, ltb}
-use lib.ListN.{length, take, drop, length-append}
-use lib.Seq.{take_at, drop_at, take_all}
-use borrow.Author.Tests.{eqb-true, eqb-false, leb-true, lt-ltb, le-ltb, ltb-true, ltb-false}
+use Rattle.std.proofs.Common.{◌≡◌, refl, sym, ◌∙◌, ap, Bool, true, false, cond, List, [], ◌∷◌, ◌++◌, append-nil, append_assoc, ℕ, ◌+◌, ◌≤◌, ◌<◌, arith, eqb, ltb, length, take, drop, length-append, take_at, drop_at, take_all, eqb-true, leb-true, lt-ltb, le-ltb, ltb-true, ltb-false}
+use mathlib.Core.Path.{subst⁻¹}
+use mathlib.Core.Bool.{false≢true}
+use borrow.Author.Tests.{eqb-false}
 use Rattle.sheet_lines.specs.declared.Due.{Due}
 use Rattle.sheet_lines.specs.declared.Due.TheVariants as D
 use Rattle.sheet_lines.specs.Form.{effect_keys, effect_count}

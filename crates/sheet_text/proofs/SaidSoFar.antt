@@ -1,13 +1,7 @@
 -- One line: where it is taken, the lines so far and the line say the sheet then.
 -- Assumes nothing.
-use mathlib.Core.Path.{◌≡◌, refl, ap, subst, subst⁻¹}
-use mathlib.Core.List.{List, [], ◌∷◌, ◌++◌, append-nil, append_assoc}
-use Prim.Native.Nat.{ℕ, zero, suc, ◌+◌, ◌<◌}
-use native.Mathlib.Omega.{arith}
-use native.Mathlib.Numerals.{add-one}
-use lib.IntN.{ℤ}
-use lib.ListN.{length, take, set}
-use lib.Seq.{take-suc-set}
+use Rattle.std.proofs.Common.{◌≡◌, refl, ap, subst, List, [], ◌∷◌, ◌++◌, append-nil, append_assoc, ℕ, zero, suc, ◌+◌, ◌<◌, arith, add-one, ℤ, length, take, set, take-suc-set}
+use mathlib.Core.Path.{subst⁻¹}
 use Rattle.column.specs.declared.Line.{Line}
 use Rattle.column.specs.declared.Column.{Column}
 use Rattle.lists.specs.Lists.{none}

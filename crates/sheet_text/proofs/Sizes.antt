@@ -1,13 +1,6 @@
 -- Lines that say something have no newline in them, and are not long.
 -- Assumes nothing.
-use mathlib.Core.Path.{◌≡◌, refl, sym, subst}
-use mathlib.Core.List.{List, [], ◌∷◌, ◌++◌}
-use Prim.Native.Nat.{ℕ, zero, suc, ◌+◌, ◌*◌, ◌≤◌}
-use native.Mathlib.Nat.{zero-add}
-use native.Mathlib.Omega.{arith}
-use lib.ListN.{length, length-append}
-use lib.IntN.{ℤ, pos, negsuc, nat_abs}
-use borrow.Author.Tests.{ne_eqb}
+use Rattle.std.proofs.Common.{◌≡◌, refl, sym, subst, List, [], ◌∷◌, ◌++◌, ℕ, zero, suc, ◌+◌, ◌*◌, ◌≤◌, zero-add, arith, length, length-append, ℤ, pos, negsuc, nat_abs, ne_eqb}
 use Rattle.text.specs.Text.{joined, decimal, signed_decimal}
 use Rattle.text.specs.theorems.Texts.{newlines}
 use Rattle.text.proofs.Sign.{signed_pos, signed_neg, signed_length}

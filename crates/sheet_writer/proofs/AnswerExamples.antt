@@ -1,7 +1,7 @@
 -- What writing gives in the examples holds. A wrong definition of writing is refused here, by an example, before it is at a
 -- law: modules are checked in the order of their names.
 -- Assumes nothing.
-use mathlib.Core.Path.{refl}
+use Rattle.std.proofs.Common.{refl}
 use Rattle.lists.specs.Lists.{All, none, more}
 use Rattle.text.specs.Text.{joined, last_digit, digits_in, decimal, signed_parts}
 use Rattle.text.specs.Lines.{text_of}

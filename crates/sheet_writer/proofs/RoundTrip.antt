@@ -1,15 +1,8 @@
 -- What is written is read as it was, what is read is written back, and the room suffices.
 -- Assumes nothing.
-use mathlib.Core.Path.{◌≡◌, refl, sym, ◌∙◌, ap, subst}
-use mathlib.Core.Bool.{Bool, true, false, cond}
-use mathlib.Core.List.{List, [], ◌∷◌, ◌++◌}
-use Prim.Native.Nat.{ℕ, suc, ◌≤◌, ◌<◌}
-use native.Mathlib.Omega.{arith}
-use lib.Dec.{leb}
-use lib.IntN.{ℤ, pos, nat_abs}
-use lib.Ieee.{Float, binary64, of_int}
-use lib.ListN.{length, take, drop, get_or}
-use borrow.Author.Tests.{le-leb, lt-leb}
+use Rattle.std.proofs.Common.{◌≡◌, refl, sym, ◌∙◌, ap, subst, Bool, true, false, cond, List, [], ◌∷◌, ◌++◌, ℕ, suc, ◌≤◌, ◌<◌, arith, leb, ℤ, pos, nat_abs, Float, length, take, drop, get_or, le-leb}
+use lib.Ieee.{binary64, of_int}
+use borrow.Author.Tests.{lt-leb}
 use Rattle.refusal.specs.Said.{Told, gives, refused}
 use Rattle.lists.specs.Lists.{All, none, more}
 use Rattle.text.specs.Put.{fronted}

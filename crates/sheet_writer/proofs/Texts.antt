@@ -1,11 +1,6 @@
 -- The parts that are put one after another are the text of the sheet.
 -- Assumes nothing.
-use mathlib.Core.Path.{◌≡◌, refl, sym, ◌∙◌, ap}
-use mathlib.Core.List.{List, [], ◌∷◌, ◌++◌, append-nil, append_assoc, map}
-use Prim.Native.Nat.{ℕ, suc, ◌<◌}
-use native.Mathlib.Omega.{arith}
-use lib.IntN.{ℤ, pos}
-use lib.ListN.{length, get_or}
+use Rattle.std.proofs.Common.{◌≡◌, refl, sym, ◌∙◌, ap, List, [], ◌∷◌, ◌++◌, append-nil, append_assoc, map, ℕ, suc, ◌<◌, arith, ℤ, pos, length, get_or}
 use Rattle.text.specs.Text.{bytes_of, joined, decimal, signed_parts, signed_decimal}
 use Rattle.text.specs.Lines.{newline, ended, text_of}
 use Rattle.text.proofs.Puts.{joined_append}

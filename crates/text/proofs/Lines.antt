@@ -1,12 +1,6 @@
 -- The lines of a text: no line has a newline in it, a line in front or behind, and the bytes of all.
 -- Assumes nothing.
-use mathlib.Core.Path.{◌≡◌, refl, sym, ◌∙◌, ap}
-use mathlib.Core.Bool.{Bool, true, false, cond}
-use mathlib.Core.List.{List, [], ◌∷◌, ◌++◌, append-nil, append_assoc}
-use Prim.Native.Nat.{ℕ, ◌+◌}
-use native.Mathlib.Omega.{arith}
-use lib.Dec.{eqb}
-use borrow.Author.Tests.{eqb-true}
+use Rattle.std.proofs.Common.{◌≡◌, refl, sym, ◌∙◌, ap, Bool, true, false, cond, List, [], ◌∷◌, ◌++◌, append-nil, append_assoc, ℕ, ◌+◌, arith, eqb, eqb-true}
 use Rattle.text.specs.Lines.{newline, Lines, line, rest, with_byte, split, ended, text_of}
 use Rattle.text.specs.theorems.Texts.{newlines}
 

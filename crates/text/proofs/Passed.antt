@@ -1,14 +1,7 @@
 -- How the end of a line was found byte by byte: bytes without a newline are passed over.
 -- Assumes nothing.
-use mathlib.Core.Path.{◌≡◌, refl, sym, ◌∙◌, ap}
-use mathlib.Core.Bool.{Bool, true, false, ◌||◌, false≢true}
-use mathlib.Core.List.{List}
-use Prim.Native.Nat.{ℕ, zero, suc, ◌+◌, ◌≤◌, ◌<◌}
-use native.Mathlib.Nat.{add-zero}
-use native.Mathlib.Omega.{arith}
-use lib.Dec.{eqb}
-use lib.ListN.{length, drop, get_or, drop_of_length-le}
-use lib.Seq.{drop-cons}
+use Rattle.std.proofs.Common.{◌≡◌, refl, sym, ◌∙◌, ap, Bool, true, false, ◌||◌, List, ℕ, zero, suc, ◌+◌, ◌≤◌, ◌<◌, add-zero, arith, eqb, length, drop, get_or, drop_of_length-le, drop-cons}
+use mathlib.Core.Bool.{false≢true}
 use Rattle.text.specs.Lines.{newline, index_of, index_after, end_from}
 
 -- the byte at a place, or one of so many after it, is a newline

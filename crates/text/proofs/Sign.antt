@@ -1,15 +1,7 @@
 -- A number with its sign: the sign where it is below 0, and its size in digits.
 -- Assumes nothing.
-use mathlib.Core.Path.{◌≡◌, refl, sym, ◌∙◌, ap, subst}
-use mathlib.Core.Bool.{true, false}
-use mathlib.Core.List.{List, [], ◌∷◌, append-nil}
-use Prim.Native.Nat.{ℕ, suc, zero-le, ◌≤◌}
-use native.Mathlib.Omega.{arith}
-use lib.Dec.{T}
-use lib.IntN.{ℤ, pos, negsuc, nat_abs}
-use lib.ListN.{length}
+use Rattle.std.proofs.Common.{◌≡◌, refl, sym, ◌∙◌, ap, subst, true, false, List, [], ◌∷◌, append-nil, ℕ, suc, zero-le, ◌≤◌, arith, T, ℤ, pos, negsuc, nat_abs, length, le-ltb}
 use lib.Signed.{lt_z}
-use borrow.Author.Tests.{le-ltb}
 use Rattle.text.specs.Text.{joined, minus, decimal, signed_parts, signed_decimal}
 
 -- below 0 the sign comes first

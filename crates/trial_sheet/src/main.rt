@@ -14,7 +14,7 @@ use std::io::{BufWriter, Read, Write};
 // More than the stored sheets take.
 const ROOM: usize = 1048576;
 
-// An effect of a sheet as a double; none that is read is beyond the limit.
+// An effect of a sheet as a double; none that is read is beyond the limit, and the test says so to the check.
 fn double_of(effect: i64) -> f64 {
     if !newtons::is_within(effect) {
         return 0.0;
@@ -35,7 +35,7 @@ fn doubles_of(effects: [i64; EFFECTS]) -> SheetDoubles {
     }
 }
 
-// Writes a sheet that was read, and gives how many bytes that is.
+// Writes a sheet that was read, and gives how many bytes that is; one that was read is never refused, and 0 would show it.
 fn put_back(
     column: ColumnRef<'_>,
     effects: [i64; EFFECTS],
@@ -101,7 +101,7 @@ fn size_from(line: &[u8]) -> Option<usize> {
     Some(size)
 }
 
-// Answers for every sheet; a sheet that is cut short is not read.
+// Answers for every sheet; a sheet that is cut short is not read, and one whose line says no number has no bytes.
 fn answer_all<W: Write>(out: &mut W, text: &[u8]) -> io::Result<()> {
     let mut rest = text;
     while !rest.is_empty() {

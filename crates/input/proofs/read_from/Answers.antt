@@ -1,6 +1,5 @@
 -- `input::read_from` meets its contract: the count is the buffer's length where the loop ends by itself, and below it else. Assumes nothing.
-use Rattle.std.proofs.Common.{arith, sym, eq-eqb}
-use borrow.Author.Tests.{ne_eqb}
+use Rattle.std.proofs.Common.{arith, sym, eq-eqb, ne_eqb}
 use Rattle.input.specs.Ending.{is_full}
 use Rattle.input.proofs.read_from.Goals as goal
 

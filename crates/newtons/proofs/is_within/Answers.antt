@@ -1,8 +1,5 @@
 -- `newtons::is_within` meets its contract: the magnitude is that of the number handed over. Assumes nothing.
-use mathlib.Core.Path.{◌∙◌, ap}
-use Prim.Native.Nat.{ℕ}
-use lib.Dec.{leb}
-use mir.Syntax.{w64}
+use Rattle.std.proofs.Common.{◌∙◌, ap, ℕ, leb, w64}
 use mir.Facts.{to_z-of_z}
 use Rattle.newtons.specs.Effect.{magnitude_of, limit}
 use Rattle.newtons.proofs.is_within.Goals as goal

@@ -1,19 +1,10 @@
 -- `newtons::value_of` meets its contract: each way out is one law of values, at the fields of the bits. Assumes nothing.
-use mathlib.Core.Path.{◌≡◌, sym, ◌∙◌, ap, subst}
-use mathlib.Core.Bool.{true, false}
-use Prim.Native.Nat.{ℕ, zero, suc, ◌+◌, ◌-◌, ◌*◌, ◌/◌, ◌%◌, ◌^◌, ◌≤◌, ◌<◌}
-use native.Mathlib.Nat.{one-mul, div-le_self, lt_of_le_of_lt, lt_of_lt_of_le}
-use native.Mathlib.Omega.{arith}
-use lib.Dec.{leb, lit<, lit≤}
-use lib.Pow.{pow_pos, shl_exact}
-use lib.IntN.{ℤ, pos, neg_ℤ, ◌-ℤ◌, +ℤ_idl}
-use lib.Ieee.{Float, binary64, to_bits}
+use Rattle.std.proofs.Common.{◌≡◌, sym, ◌∙◌, ap, subst, true, false, ℕ, zero, suc, ◌+◌, ◌-◌, ◌*◌, ◌/◌, ◌%◌, ◌^◌, ◌≤◌, ◌<◌, one-mul, div-le_self, lt_of_le_of_lt, lt_of_lt_of_le, arith, leb, lit<, lit≤, pow_pos, shl_exact, ℤ, pos, neg_ℤ, ◌-ℤ◌, Float, to_bits, w64, SFits, to_z, rules, le-leb}
+use lib.IntN.{+ℤ_idl}
+use lib.Ieee.{binary64}
 use Rattle.std.specs.Prelude.{Some}
-use mir.Syntax.{w64}
-use mir.Val.{SFits, to_z}
 use mir.ValLaws.{to_z-of_z, to_z_pos}
-use borrow.Author.Rules.{rules}
-use borrow.Author.Tests.{le-leb, lt-leb}
+use borrow.Author.Tests.{lt-leb}
 use Rattle.refusal.specs.Refusal.{number_of}
 use Rattle.refusal.specs.Said.{gives, said}
 use Rattle.newtons.specs.Effect.{signed}

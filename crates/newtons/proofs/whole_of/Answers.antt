@@ -1,7 +1,5 @@
 -- `newtons::whole_of` meets its contract: what is handed on decides, a whole number by the limit. Assumes nothing.
-use Rattle.std.proofs.Common.{◌≡◌, sym, ◌∙◌, ap, Bool, cond, ℕ, ℤ, Float, rules, Option, Some, None}
-use mir.Syntax.{w64}
-use mir.Val.{to_z, of_z}
+use Rattle.std.proofs.Common.{◌≡◌, sym, ◌∙◌, ap, Bool, cond, ℕ, ℤ, Float, rules, Option, Some, None, w64, to_z, of_z}
 use mir.ValLaws.{to_z-of_z}
 use Rattle.refusal.specs.Refusal.{number_of}
 use Rattle.refusal.specs.Said.{Said, gives, refused, nothing, said}

@@ -1,11 +1,8 @@
 -- `report::put_refusal` meets its contract: the line finds room. Assumes nothing.
-use Prim.Native.Nat.{◌≤◌}
-use native.Mathlib.Omega.{arith}
-use lib.ListN.{length}
+use Rattle.std.proofs.Common.{◌≤◌, arith, length, rules}
 use Rattle.text.proofs.Puts.{puts_front}
 use Rattle.report.specs.Report.{refusal_line, refusal_text}
 use Rattle.report.proofs.Lengths.{refusal_most}
-use borrow.Author.Rules.{rules}
 use Rattle.report.proofs.put_refusal.Goals as goal
 
 pub returns : goal.returns

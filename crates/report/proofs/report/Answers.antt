@@ -1,9 +1,5 @@
 -- `report::report` meets its contract: a sheet that is read is put whole, of a refused one nothing. Assumes nothing.
-use mathlib.Core.Path.{refl, ◌∙◌, ap}
-use mathlib.Core.List.{List}
-use Prim.Native.Nat.{ℕ, ◌≤◌}
-use native.Mathlib.Omega.{arith}
-use lib.ListN.{length}
+use Rattle.std.proofs.Common.{refl, ◌∙◌, ap, List, ℕ, ◌≤◌, arith, length, rules}
 use Rattle.text.specs.Text.{joined}
 use Rattle.text.specs.Put.{fronted}
 use Rattle.text.proofs.Puts.{Front, puts_front}
@@ -11,7 +7,6 @@ use Rattle.sheet.specs.Keeps.{Keeps}
 use Rattle.report.specs.Report.{takedown_of}
 use Rattle.report.proofs.Lengths.{takedown_most}
 use Rattle.report.proofs.Prints.{put_read, put_refused, reported}
-use borrow.Author.Rules.{rules}
 use Rattle.report.proofs.report.Goals as goal
 use Rattle.report.proofs.report.Goals.{After-put_takedown, Else-is_refused}
 

@@ -1,7 +1,6 @@
 -- `sheet::offending` meets its contract: the part lies within the text. Assumes nothing.
-use mathlib.Core.Path.{refl, subst⁻¹}
-use native.Mathlib.Omega.{arith}
-use lib.ListN.{length}
+use Rattle.std.proofs.Common.{refl, arith, length}
+use mathlib.Core.Path.{subst⁻¹}
 use Rattle.sheet.specs.Sheet.{offending_of, offending_at}
 use Rattle.sheet.proofs.ReadOn.{PartOf, read_part}
 use Rattle.sheet.proofs.offending.Goals as goal

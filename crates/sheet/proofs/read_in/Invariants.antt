@@ -1,7 +1,5 @@
 -- `sheet::read_in` meets its contract: reading on from here, with the sheet so far, gives what reading the whole text gives. Assumes nothing.
-use mathlib.Core.Path.{◌≡◌}
-use Prim.Native.Nat.{◌≤◌, ◌-◌}
-use lib.ListN.{length, drop}
+use Rattle.std.proofs.Common.{◌≡◌, ◌≤◌, ◌-◌, length, drop}
 use Rattle.text.specs.Lines.{split}
 use Rattle.sheet.specs.Sheet.{read_from, read_sheet}
 use Rattle.sheet.proofs.Kept.{Kept}

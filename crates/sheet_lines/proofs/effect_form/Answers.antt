@@ -1,13 +1,8 @@
 -- `sheet_lines::effect_form` meets its contract: the key, a minus sign or none, and the number. Assumes nothing.
-use mathlib.Core.Path.{◌≡◌, sym, ◌∙◌, ap, subst⁻¹}
-use mathlib.Core.Bool.{false}
-use Prim.Native.Nat.{ℕ, ◌<◌}
-use native.Mathlib.Omega.{arith}
-use lib.IntN.{ℤ, pos, neg_ℤ, ◌-ℤ◌, +ℤ_idl}
-use mir.Syntax.{w64}
-use mir.Val.{SFits, to_z, of_z}
+use Rattle.std.proofs.Common.{◌≡◌, sym, ◌∙◌, ap, false, ℕ, ◌<◌, arith, ℤ, pos, neg_ℤ, ◌-ℤ◌, w64, SFits, to_z, of_z, eq-eqb, ne_eqb}
+use mathlib.Core.Path.{subst⁻¹}
+use lib.IntN.{+ℤ_idl}
 use mir.ValLaws.{to_z_pos}
-use borrow.Author.Tests.{eq-eqb, ne_eqb}
 use Rattle.std.specs.Prelude.{Some}
 use Rattle.newtons.specs.Effect.{signed}
 use Rattle.newtons.proofs.Word.{size_neg, small_fits, kept}

@@ -1,6 +1,5 @@
 -- `sheet_lines::is_floor` meets its contract: what begins with the first key of a floor line, where dead is due. Assumes nothing.
-use mathlib.Core.Path.{◌∙◌}
-use borrow.Author.Tests.{eq-eqb, ne_eqb}
+use Rattle.std.proofs.Common.{◌∙◌, eq-eqb, ne_eqb}
 use Rattle.sheet_lines.specs.Form.{floor_keys, is_floor}
 use Rattle.sheet_lines.proofs.AtPlace.{begins_is}
 use Rattle.sheet_lines.proofs.is_floor.Goals as goal

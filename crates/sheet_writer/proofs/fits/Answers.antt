@@ -1,6 +1,5 @@
 -- `sheet_writer::fits` meets its contract: no sheet is longer than the room that suffices for all. Assumes nothing.
-use Rattle.std.proofs.Common.{sym, ◌∙◌, ap, ℕ, leb, length, arith}
-use borrow.Author.Tests.{le-leb}
+use Rattle.std.proofs.Common.{sym, ◌∙◌, ap, ℕ, leb, length, arith, le-leb}
 use Rattle.column.proofs.Seen.{seen_reached}
 use Rattle.column.specs.Seen.{column_seen}
 use Rattle.sheet_text.specs.Written.{written}

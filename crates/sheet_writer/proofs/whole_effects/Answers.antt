@@ -1,9 +1,5 @@
 -- `sheet_writer::whole_effects` meets its contract: the first that is refused ends the check. Assumes nothing.
-use Rattle.std.proofs.Common.{◌≡◌, refl, ℤ}
-use lib.Dec.{lit<}
-use lib.Ieee.{Float}
-use mir.Syntax.{w64}
-use mir.Val.{to_z, of_z}
+use Rattle.std.proofs.Common.{◌≡◌, refl, ℤ, lit<, Float, w64, to_z, of_z}
 use Rattle.newtons.proofs.Limits.{effect_within}
 use Rattle.newtons.proofs.Word.{kept}
 use Rattle.std.proofs.lemmas.Result.{err_from_is_err_and}

@@ -1,6 +1,5 @@
 -- `sheet_writer::write_whole` meets its contract: with room for it the sheet is put whole, and else nothing. Assumes nothing.
-use Rattle.std.proofs.Common.{◌≡◌, ap, true, false, ◌≤◌, leb, length, arith}
-use borrow.Author.Tests.{leb-true}
+use Rattle.std.proofs.Common.{◌≡◌, ap, true, false, ◌≤◌, leb, length, arith, leb-true}
 use Rattle.refusal.specs.Refusal.{number_of}
 use Rattle.refusal.specs.Said.{told}
 use Rattle.text.specs.Put.{fronted}

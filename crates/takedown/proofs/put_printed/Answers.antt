@@ -1,7 +1,7 @@
 -- `takedown::put_printed` meets its contract: what is put is the front of the buffer. Assumes nothing.
+use Rattle.std.proofs.Common.{take}
 use Rattle.text.proofs.Puts.{fronted_take}
 use Rattle.report.specs.Report.{report_of}
-use lib.ListN.{take}
 use Rattle.takedown.proofs.put_printed.Goals as goal
 
 pub slice_bounds-put_printed-end : goal.slice_bounds-put_printed-end

@@ -1,7 +1,7 @@
 -- `reduction::Carried::reduced_load` meets its contract: a formula line with a load is within its limits. Assumes nothing.
-use mathlib.Core.Path.{◌≡◌, sym, ◌∙◌, subst⁻¹}
-use mathlib.Core.Bool.{true, false≢true}
-use native.Mathlib.Omega.{arith}
+use Rattle.std.proofs.Common.{◌≡◌, sym, ◌∙◌, true, arith}
+use mathlib.Core.Path.{subst⁻¹}
+use mathlib.Core.Bool.{false≢true}
 use Rattle.refusal.specs.Said.{said}
 use Rattle.reduction.specs.declared.share.Share.{Share}
 use Rattle.member.specs.Line.{is_formula}

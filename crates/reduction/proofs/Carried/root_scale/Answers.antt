@@ -1,6 +1,5 @@
 -- `reduction::Carried::root_scale` meets its contract. Assumes nothing.
-use mathlib.Core.Path.{◌≡◌, ◌∙◌, sym}
-use native.Mathlib.Omega.{arith}
+use Rattle.std.proofs.Common.{◌≡◌, ◌∙◌, sym, arith}
 use Rattle.reduction.specs.declared.share.Share.TheVariants.{Root}
 use Rattle.reduction.specs.Share.{formula_share}
 use Rattle.reduction.specs.Scale.{share_scale, scale_of}

@@ -1,5 +1,5 @@
 -- `reduction::rounding::twentieths_of` meets its contract: the quotient is the least number that reaches. Assumes nothing.
-use mathlib.Core.Path.{sym}
+use Rattle.std.proofs.Common.{sym}
 use Rattle.reduction.proofs.Twentieths.{twentieths_least}
 use Rattle.reduction.proofs.rounding.twentieths_of.Goals as goal
 

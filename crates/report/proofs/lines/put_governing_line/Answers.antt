@@ -1,7 +1,6 @@
 -- `report::lines::put_governing_line` meets its contract: the sum with its sign, and its row. Assumes nothing.
-use mir.Syntax.{w64}
+use Rattle.std.proofs.Common.{w64, rules}
 use mir.ValLaws.{to_z-of_z}
-use borrow.Author.Rules.{rules}
 use Rattle.text.proofs.Puts.{puts_then}
 use Rattle.report.specs.Report.{governing_line}
 use Rattle.report.proofs.lines.put_governing_line.Goals as goal

@@ -1,11 +1,5 @@
 -- `report::takedown::newtons_with` meets its contract: 64 bits keep an effect within the limit. Assumes nothing.
-use mathlib.Core.Path.{◌≡◌}
-use Prim.Native.Nat.{ℕ}
-use native.Mathlib.Omega.{arith}
-use lib.IntN.{pos}
-use lib.ListN.{get_or}
-use mir.Syntax.{w64}
-use mir.Val.{to_z, of_z}
+use Rattle.std.proofs.Common.{◌≡◌, ℕ, arith, pos, get_or, w64, to_z, of_z}
 use mir.ValLaws.{to_z_pos}
 use Rattle.sheet.proofs.Kept.{each_within}
 use Rattle.report.specs.Report.{effects_with}

@@ -1,6 +1,5 @@
 -- `report::takedown::put_all` meets its contract: the floors, and then the rows that govern. Assumes nothing.
-use mathlib.Core.Path.{◌≡◌, ◌∙◌, ap}
-use Prim.Native.Nat.{ℕ, ◌+◌, ◌/◌}
+use Rattle.std.proofs.Common.{◌≡◌, ◌∙◌, ap, ℕ, ◌+◌, ◌/◌}
 use Rattle.text.proofs.Puts.{puts_then}
 use Rattle.figure.proofs.Lowest.{lowest_most}
 use Rattle.column.specs.Seen.{column_seen}

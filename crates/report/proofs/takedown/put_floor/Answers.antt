@@ -1,7 +1,5 @@
 -- `report::takedown::put_floor` meets its contract: nothing is put where no line has the floor. Assumes nothing.
-use mathlib.Core.Path.{◌≡◌, refl}
-use mathlib.Core.List.{[]}
-use Prim.Native.Nat.{ℕ}
+use Rattle.std.proofs.Common.{◌≡◌, refl, [], ℕ}
 use Rattle.std.specs.Prelude.{Option, Some, None}
 use Rattle.text.specs.Put.{puts}
 use Rattle.figure.specs.declared.Working.{Working}

@@ -1,7 +1,5 @@
 -- `report::takedown::put_floors` meets its contract: the loop has put the lines of the floors so far. Assumes nothing.
-use mathlib.Core.Path.{◌≡◌, refl, ◌∙◌}
-use native.Mathlib.Numerals.{add-one}
-use native.Mathlib.Omega.{arith}
+use Rattle.std.proofs.Common.{◌≡◌, refl, ◌∙◌, add-one, arith}
 use Rattle.text.specs.Put.{puts}
 use Rattle.text.proofs.Puts.{puts_then}
 use Rattle.report.specs.inner.Table.{table_lines}

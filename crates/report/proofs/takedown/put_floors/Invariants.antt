@@ -1,5 +1,5 @@
 -- `report::takedown::put_floors` meets its contract: the loop has put the lines of the floors so far. Assumes nothing.
-use mathlib.Core.Path.{◌≡◌}
+use Rattle.std.proofs.Common.{◌≡◌}
 use Rattle.text.specs.Put.{out, puts}
 use Rattle.report.specs.inner.Table.{table_lines}
 use Rattle.report.proofs.takedown.put_floors.Given as goal

@@ -1,6 +1,5 @@
 -- `report::takedown::put_governing` meets its contract: whole effects within the limit have governing rows. Assumes nothing.
-use mathlib.Core.Path.{◌≡◌, ◌∙◌, ap}
-use lib.IntN.{ℤ}
+use Rattle.std.proofs.Common.{◌≡◌, ◌∙◌, ap, ℤ}
 use Rattle.text.proofs.Puts.{puts_then}
 use Rattle.refusal.specs.Said.{gives, told}
 use Rattle.refusal.proofs.Said.{told_gives_it, told_is_given}

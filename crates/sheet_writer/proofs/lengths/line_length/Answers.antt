@@ -1,5 +1,5 @@
 -- `sheet_writer::lengths::line_length` meets its contract. Assumes nothing.
-use native.Mathlib.Omega.{arith}
+use Rattle.std.proofs.Common.{arith}
 use Rattle.sheet_writer.proofs.Sizes.{line_length}
 use Rattle.sheet_writer.proofs.lengths.line_length.Goals as goal
 

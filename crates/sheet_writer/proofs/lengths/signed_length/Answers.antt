@@ -1,12 +1,6 @@
 -- `sheet_writer::lengths::signed_length` meets its contract: one byte more where there is a sign. Assumes nothing.
-use mathlib.Core.Path.{◌≡◌, sym, ◌∙◌, ap}
-use Prim.Native.Nat.{ℕ}
-use native.Mathlib.Omega.{arith}
-use lib.IntN.{ℤ, pos, nat_abs}
-use lib.ListN.{length}
+use Rattle.std.proofs.Common.{◌≡◌, sym, ◌∙◌, ap, ℕ, arith, ℤ, pos, nat_abs, length, w64, to_z, of_z}
 use lib.Signed.{lt_z}
-use mir.Syntax.{w64}
-use mir.Val.{to_z, of_z}
 use mir.ValLaws.{to_z-of_z}
 use Rattle.text.specs.Text.{decimal}
 use Rattle.sheet_writer.proofs.Sizes.{signed_below_length, signed_from_zero_length}

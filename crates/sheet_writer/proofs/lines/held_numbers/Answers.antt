@@ -1,6 +1,5 @@
 -- `sheet_writer::lines::held_numbers` meets its contract: a column holds at most 256 lines. Assumes nothing.
-use Rattle.std.proofs.Common.{arith}
-use lib.Seq.{length-take-le}
+use Rattle.std.proofs.Common.{arith, length-take-le}
 use Rattle.column.proofs.Reach.{sound}
 use Rattle.column.proofs.Seen.{seen_reached}
 use Rattle.sheet_writer.proofs.lines.held_numbers.Goals as goal

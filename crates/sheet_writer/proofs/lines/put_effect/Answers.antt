@@ -1,5 +1,5 @@
 -- `sheet_writer::lines::put_effect` meets its contract: the key, the number with its sign, and the newline. Assumes nothing.
-use mir.Syntax.{w64}
+use Rattle.std.proofs.Common.{w64}
 use mir.ValLaws.{to_z-of_z}
 use Rattle.text.proofs.Puts.{puts_then}
 use Rattle.sheet_writer.specs.inner.Parts.{effect_parts}

@@ -1,8 +1,5 @@
 -- `sheet_writer::lines::put_effects` meets its contract: the six effects in order. Assumes nothing.
-use Rattle.std.proofs.Common.{◌≡◌, ℕ, get_or, pos}
-use lib.Dec.{lit<}
-use mir.Syntax.{w64}
-use mir.Val.{to_z, of_z}
+use Rattle.std.proofs.Common.{◌≡◌, ℕ, get_or, pos, lit<, w64, to_z, of_z}
 use Rattle.newtons.proofs.Word.{kept}
 use Rattle.sheet.proofs.Kept.{each_within}
 use Rattle.text.proofs.Puts.{puts_then}

@@ -1,10 +1,6 @@
 -- `text::Output::signed` meets its contract: the sign where there is one, and the digits of the size after it. Assumes nothing.
-use mathlib.Core.Path.{◌≡◌, sym, ◌∙◌, ap}
-use mathlib.Core.List.{[], ◌∷◌}
-use lib.IntN.{ℤ, pos, nat_abs}
+use Rattle.std.proofs.Common.{◌≡◌, sym, ◌∙◌, ap, [], ◌∷◌, ℤ, pos, nat_abs, w64, to_z, of_z}
 use lib.Signed.{lt_z}
-use mir.Syntax.{w64}
-use mir.Val.{to_z, of_z}
 use mir.ValLaws.{to_z-of_z}
 use Rattle.text.specs.declared.Output.{Output}
 use Rattle.text.specs.Text.{decimal}

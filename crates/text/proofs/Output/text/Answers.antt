@@ -1,12 +1,8 @@
 -- `text::Output::text` meets its contract: what is copied into the rest of the buffer stands in the buffer from the index on. Assumes nothing.
-use mathlib.Core.Path.{◌≡◌, sym, ◌∙◌, ap}
-use mathlib.Core.List.{List, ◌++◌, append_assoc}
-use Prim.Native.Nat.{ℕ, ◌+◌, ◌-◌, ◌≤◌}
-use native.Mathlib.Omega.{arith}
-use lib.ListN.{length, take, drop}
-use lib.Seq.{sets, sets-eq, drop-drop}
+use Rattle.std.proofs.Common.{◌≡◌, sym, ◌∙◌, ap, List, ◌++◌, append_assoc, ℕ, ◌+◌, ◌-◌, ◌≤◌, arith, length, take, drop, drop-drop, le-leb}
+use lib.Seq.{sets, sets-eq}
 use Rattle.text.specs.Put.{out, put_one, puts}
-use borrow.Author.Tests.{le-leb, lt-leb}
+use borrow.Author.Tests.{lt-leb}
 use Rattle.text.proofs.Output.text.Goals as goal
 
 -- the rest of a buffer from an index on, with a text copied to its start, put back

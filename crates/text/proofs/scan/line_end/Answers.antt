@@ -1,12 +1,5 @@
 -- `text::scan::line_end` meets its contract: what is found in the rest of the text is found from the place on. Assumes nothing.
-use mathlib.Core.Path.{◌≡◌, sym, ◌∙◌, ap}
-use mathlib.Core.List.{List}
-use Prim.Native.Nat.{ℕ, ◌+◌, ◌-◌}
-use native.Mathlib.Nat.{add-zero}
-use Rattle.std.proofs.Common.{zero-le}
-use native.Mathlib.Omega.{arith}
-use lib.ListN.{length, take, drop, drop_of_length-le, length-drop}
-use lib.Seq.{take_all}
+use Rattle.std.proofs.Common.{zero-le, ◌≡◌, sym, ◌∙◌, ap, List, ℕ, ◌+◌, ◌-◌, add-zero, arith, length, take, drop, drop_of_length-le, length-drop, take_all}
 use Rattle.std.specs.Prelude.{Option, Some, None, unwrap_or}
 use Rattle.memchr.specs.Find.{IsFirstByte, is_byte}
 use Rattle.text.specs.Lines.{newline, index_of, end_from}

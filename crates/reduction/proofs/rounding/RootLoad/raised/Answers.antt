@@ -1,8 +1,5 @@
 -- `reduction::rounding::RootLoad::raised` meets its contract: what reaches is not below the reduced load. Assumes nothing.
-use mathlib.Core.Path.{◌≡◌}
-use mathlib.Core.Bool.{true, false}
-use borrow.Author.Tests.{tests}
-use Rattle.std.proofs.Common.{rules}
+use Rattle.std.proofs.Common.{rules, ◌≡◌, true, false, tests}
 use Rattle.std.proofs.lemmas.Iterator.{first_from_Range}
 use Rattle.reduction.specs.declared.share.Share.TheVariants.{Root}
 use Rattle.reduction.specs.Reduced.{reaches}

@@ -1,9 +1,6 @@
 -- `reduction::rounding::RootLoad::rounded` meets its contract: the reduced load stands above the last number that does not reach.
 -- Assumes nothing.
-use mathlib.Core.Path.{◌≡◌}
-use mathlib.Core.Bool.{true, false}
-use borrow.Author.Tests.{tests}
-use Rattle.std.proofs.Common.{rules}
+use Rattle.std.proofs.Common.{rules, ◌≡◌, true, false, tests}
 use Rattle.reduction.specs.declared.share.Share.TheVariants.{Root}
 use Rattle.reduction.specs.Reduced.{reaches}
 use Rattle.reduction.proofs.Down.{last_from_Range}

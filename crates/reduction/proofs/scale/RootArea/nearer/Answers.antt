@@ -1,8 +1,6 @@
 -- `reduction::scale::RootArea::nearer` meets its contract: a step does not end below the root, and its divisor is not small.
 -- Assumes nothing.
-use Prim.Native.Nat.{◌*◌, ◌/◌, ◌≤◌}
-use native.Mathlib.Nat.{le_trans, mul-le-mul, mul-le-mul_left, div-mul-le_self}
-use native.Mathlib.Omega.{arith}
+use Rattle.std.proofs.Common.{◌*◌, ◌/◌, ◌≤◌, le_trans, mul-le-mul, mul-le-mul_left, div-mul-le_self, arith}
 use Rattle.reduction.proofs.Scales.{step_above}
 use Rattle.reduction.proofs.scale.RootArea.nearer.Goals as goal
 

@@ -1,10 +1,6 @@
 -- `reduction::scale::RootArea::rounded_down` meets its contract: the scale is the last number that fits. Assumes nothing.
-use mathlib.Core.Path.{◌≡◌, sym, ◌∙◌}
-use mathlib.Core.Bool.{true, false}
-use native.Mathlib.Omega.{arith}
-use borrow.Author.Tests.{tests}
 use Rattle.std.specs.Prelude.{Some}
-use Rattle.std.proofs.Common.{rules}
+use Rattle.std.proofs.Common.{rules, ◌≡◌, sym, ◌∙◌, true, false, arith, tests}
 use Rattle.std.proofs.lemmas.Option.{same_Some}
 use Rattle.reduction.specs.Scale.{root_scale}
 use Rattle.reduction.specs.inner.ShareBounds.{fits}

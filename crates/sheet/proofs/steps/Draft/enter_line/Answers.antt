@@ -1,9 +1,8 @@
 -- `sheet::steps::Draft::enter_line` meets its contract: a refused line leaves the column as it was. Assumes nothing.
-use mathlib.Core.Path.{◌≡◌, ◌∙◌, sym, ap}
+use Rattle.std.proofs.Common.{◌≡◌, ◌∙◌, sym, ap, ℕ, ◌≤◌}
 use Rattle.std.proofs.lemmas.Result.{err_from_is_err_and}
 use Rattle.refusal.specs.Said.{number_told}
 use Rattle.refusal.proofs.Said.{number_positive, not_zero}
-use Prim.Native.Nat.{ℕ, ◌≤◌}
 use Rattle.column.specs.declared.Line.{Line}
 use Rattle.column.specs.declared.Column.{Column}
 use Rattle.column.specs.Column.{Outcome}

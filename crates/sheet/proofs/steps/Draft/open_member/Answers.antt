@@ -1,5 +1,5 @@
 -- `sheet::steps::Draft::open_member` meets its contract: before the member there is no column. Assumes nothing.
-use mathlib.Core.Path.{◌∙◌, ap}
+use Rattle.std.proofs.Common.{◌∙◌, ap}
 use Rattle.std.proofs.lemmas.Result.{err_from_is_err_and}
 use Rattle.refusal.specs.Said.{number_told}
 use Rattle.refusal.proofs.Said.{number_positive, not_zero}

@@ -1,7 +1,5 @@
 -- `sheet::steps::Draft::take_effect` meets its contract. Assumes nothing.
-use mathlib.Core.Path.{◌≡◌, ◌∙◌, sym, ap}
-use mathlib.Core.Bool.{true, false}
-use mir.Syntax.{w64}
+use Rattle.std.proofs.Common.{◌≡◌, ◌∙◌, sym, ap, true, false, w64}
 use mir.Facts.{to_z-of_z}
 use Rattle.member.proofs.Tests.{passed, failed}
 use Rattle.refusal.specs.Refusal.{number_of}

@@ -1,9 +1,6 @@
 -- `sheet::steps::Draft::take_line` meets its contract: what the line says is taken as it says. Assumes nothing.
-use mathlib.Core.Path.{◌≡◌, sym, ◌∙◌, ap}
-use lib.IntN.{ℤ}
-use mir.Syntax.{w64}
+use Rattle.std.proofs.Common.{◌≡◌, sym, ◌∙◌, ap, ℤ, w64, rules}
 use mir.Facts.{to_z-of_z}
-use borrow.Author.Rules.{rules}
 use Rattle.std.proofs.lemmas.Result.{err_from_is_err_and}
 use Rattle.refusal.specs.Said.{gives, said, number_told}
 use Rattle.refusal.proofs.Said.{number_positive, not_zero}
