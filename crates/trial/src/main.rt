@@ -27,16 +27,17 @@ fn answer<W: Write>(out: &mut W, state: &mut State, question: Question) -> io::R
             influence,
         } => {
             let carried = Carried { floors, influence };
-            print::print_answer(out, "reduced", carried.reduced_load(load, class))
+            print::print_answer(out, "reduced", carried.reduced_load(load, class));
         }
         Question::Open(code) => print::print_number(out, state.open(code)),
         Question::Enter(line) => {
             state.keep(line)?;
-            print::print_number(out, state.enter(line))
+            print::print_number(out, state.enter(line));
         }
         Question::Ask(floor) => print::print_asked(out, state.ask(floor)),
         Question::List { floor, off } => print::print_after(out, state.list(floor, off)),
     }
+    Ok(())
 }
 
 // Answers every line of a text, the last with or without its newline; a line that asks nothing is `unread`.
@@ -46,7 +47,7 @@ fn answer_all<W: Write>(alloc: Global, out: &mut W, text: &[u8]) -> io::Result<(
         let line = line.strip_suffix(b"\n").unwrap_or(line);
         match questions::read(alloc, line)? {
             Some(question) => answer(out, &mut state, question)?,
-            None => print::unread(out)?,
+            None => print::unread(out),
         }
     }
     Ok(())
@@ -61,5 +62,6 @@ fn main(rt: HostRuntime) -> io::Result<()> {
     }
     let mut out = BufWriter::new(rt.alloc(), io::writer(&rt))?;
     answer_all(rt.alloc(), &mut out, &text)?;
-    out.flush()
+    let _ = out.flush();
+    Ok(())
 }

@@ -1,9 +1,9 @@
-// Prints answers, a line each.
+// Prints answers, a line each. A write that fails is passed over.
 use error_bound::AfterList;
 use figure::Working;
 use refusal::Refusal;
+use std::fmt;
 use std::io::Write;
-use std::{fmt, io};
 
 // What asking at a floor gave: n, X and the figure, or the number of the refusal.
 #[derive(Clone, Copy)]
@@ -27,47 +27,45 @@ impl fmt::Display for AtFloor {
 }
 
 // A line that asks nothing.
-pub fn unread<W: Write>(out: &mut W) -> io::Result<()> {
-    writeln!(out, "unread")
+pub fn unread<W: Write>(out: &mut W) {
+    let _ = writeln!(out, "unread");
 }
 
 // Prints what a call gave under its name, or the number of its refusal.
-pub fn print_answer<W: Write>(
-    out: &mut W,
-    name: &str,
-    answer: Result<u64, Refusal>,
-) -> io::Result<()> {
+pub fn print_answer<W: Write>(out: &mut W, name: &str, answer: Result<u64, Refusal>) {
     match answer {
-        Ok(n) => writeln!(out, "{name}={n}"),
+        Ok(n) => {
+            let _ = writeln!(out, "{name}={n}");
+        }
         Err(refusal) => {
             let number = refusal.number();
-            writeln!(out, "refused={number}")
+            let _ = writeln!(out, "refused={number}");
         }
     }
 }
 
 // Prints the number of opening or entering, 0 where it is not refused.
-pub fn print_number<W: Write>(out: &mut W, outcome: Result<(), Refusal>) -> io::Result<()> {
+pub fn print_number<W: Write>(out: &mut W, outcome: Result<(), Refusal>) {
     let number = outcome.err().map_or(0, |refusal| refusal.number());
-    writeln!(out, "number={number}")
+    let _ = writeln!(out, "number={number}");
 }
 
 // Prints what asking at a floor gave.
-pub fn print_asked<W: Write>(out: &mut W, asked: Result<Working, Refusal>) -> io::Result<()> {
+pub fn print_asked<W: Write>(out: &mut W, asked: Result<Working, Refusal>) {
     let at_floor = AtFloor(asked);
-    writeln!(out, "{at_floor}")
+    let _ = writeln!(out, "{at_floor}");
 }
 
 // Prints what asking after a list gave and which of its entries were refused.
-pub fn print_after<W: Write>(out: &mut W, answer: AfterList) -> io::Result<()> {
+pub fn print_after<W: Write>(out: &mut W, answer: AfterList) {
     let at_floor = AtFloor(answer.asked);
     let count = answer.refusals.count;
     let (first, place) = match answer.refusals.first {
         Some(refused) => (refused.refusal.number(), refused.back),
         None => (0, 0),
     };
-    writeln!(
+    let _ = writeln!(
         out,
         "{at_floor} refusals={count} first={first} place={place}"
-    )
+    );
 }
