@@ -1,16 +1,7 @@
 -- What holds of every answer: the doubles keep their sums, the rows govern, and the first beyond the limit is named. Assumes nothing.
-use mathlib.Core.Path.{◌≡◌, refl, ◌∙◌, ap, subst⁻¹}
-use mathlib.Core.Bool.{Bool, false}
-use mathlib.Core.List.{List, [], ◌∷◌}
-use Prim.Native.Nat.{ℕ, zero, suc, ◌^◌, ◌≤◌, ◌<◌}
-use native.Mathlib.Nat.{le_trans}
-use native.Mathlib.Omega.{arith}
-use lib.Dec.{lit≤}
-use lib.IntN.{ℤ, nat_abs}
-use lib.Ieee.{Float}
+use Rattle.std.proofs.Common.{◌≡◌, refl, ◌∙◌, ap, Bool, false, List, [], ◌∷◌, ℕ, zero, suc, ◌^◌, ◌≤◌, ◌<◌, le_trans, arith, lit≤, ℤ, nat_abs, Float, length, get_or, le-leb}
+use mathlib.Core.Path.{subst⁻¹}
 use Rattle.std.specs.Prelude.{map}
-use lib.ListN.{length, get_or}
-use borrow.Author.Tests.{le-leb}
 use Rattle.effects.specs.declared.Load.{Load}
 use Rattle.effects.specs.declared.Load.TheVariants.{Dead}
 use Rattle.effects.specs.declared.PerLoad.{PerLoad}

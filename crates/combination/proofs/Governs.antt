@@ -1,18 +1,6 @@
 -- The search for the row that governs: its steps, and what it finds. Assumes nothing.
-use mathlib.Core.Path.{◌≡◌, refl, sym, ◌∙◌, subst}
-use mathlib.Core.Bool.{Bool, true, false, true≢false, not, cond}
-use mathlib.Core.Logic.{⊎_elim}
-use mathlib.Core.List.{List, [], ◌∷◌}
-use Prim.Native.Nat.{ℕ, zero, suc, ◌+◌, ◌-◌, ◌≤◌, ◌<◌}
-use native.Mathlib.Nat.{eq-or-lt_of_le, le_of_suc-le-suc, not-suc-le-zero}
-use native.Mathlib.Numerals.{add-one}
-use native.Mathlib.Omega.{arith}
-use lib.Dec.{T}
-use lib.IntN.{ℤ, pos, negsuc, nat_abs}
-use lib.ListN.{length, get_or, drop, drop_of_length-le}
-use lib.Seq.{drop-cons}
+use Rattle.std.proofs.Common.{◌≡◌, refl, sym, ◌∙◌, subst, Bool, true, false, true≢false, not, cond, ⊎_elim, List, [], ◌∷◌, ℕ, zero, suc, ◌+◌, ◌-◌, ◌≤◌, ◌<◌, eq-or-lt_of_le, le_of_suc-le-suc, not-suc-le-zero, add-one, arith, T, ℤ, pos, negsuc, nat_abs, length, get_or, drop, drop_of_length-le, drop-cons, le-ltb, ltb-true}
 use lib.Signed.{lt_z, lt_z_no, <ℤ-≤ℤ_trans}
-use borrow.Author.Tests.{le-ltb, ltb-true}
 use Rattle.effects.specs.inner.Sized.{EachAtMost}
 use Rattle.combination.specs.declared.search.Best.{Best}
 use Rattle.combination.specs.Governing.{greater, less, better, best_from, best}

@@ -1,16 +1,6 @@
 -- The sizes of products and sums of whole numbers, and the sum of a row. Assumes nothing.
-use mathlib.Core.Path.{◌≡◌, refl, sym, subst}
-use mathlib.Core.Bool.{Bool, true, false, cond}
-use mathlib.Core.List.{List, [], ◌∷◌}
-use Prim.Native.Nat.{ℕ, suc, ◌+◌, ◌-◌, ◌*◌, ◌≤◌, ◌<◌}
-use native.Mathlib.Nat.{le_refl, lt_of_le_of_lt, mul-le-mul}
-use native.Mathlib.Omega.{arith}
-use lib.Dec.{T, ltb, ltb→lt, lit<}
-use lib.IntN.{ℤ, pos, negsuc, nat_abs, sub_ℕ, ◌+ℤ◌, ◌*ℤ◌}
-use lib.ListN.{length, get_or, drop, length-drop, drop_of_length-le}
-use lib.Seq.{drop-cons, get_or-drop}
-use mir.Syntax.{w8}
-use mir.Val.{to_z, of_z}
+use Rattle.std.proofs.Common.{◌≡◌, refl, sym, subst, Bool, true, false, cond, List, [], ◌∷◌, ℕ, suc, ◌+◌, ◌-◌, ◌*◌, ◌≤◌, ◌<◌, le_refl, lt_of_le_of_lt, mul-le-mul, arith, T, ltb, ltb→lt, lit<, ℤ, pos, negsuc, nat_abs, ◌+ℤ◌, ◌*ℤ◌, length, get_or, drop, length-drop, drop_of_length-le, drop-cons, get_or-drop, w8, to_z, of_z}
+use lib.IntN.{sub_ℕ}
 use mir.ValLaws.{to_z-of_z}
 use Rattle.newtons.specs.Effect.{limit}
 use Rattle.effects.specs.inner.Sized.{EachAtMost, Seven}

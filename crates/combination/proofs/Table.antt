@@ -1,11 +1,6 @@
 -- The table of factors: one computed test over the whole. Assumes nothing.
-use mathlib.Core.Path.{◌≡◌, refl, sym, ◌∙◌, subst}
-use mathlib.Core.List.{List, []}
-use Prim.Native.Nat.{ℕ, ◌≤◌, ◌<◌}
-use native.Mathlib.Omega.{arith}
-use lib.Dec.{T}
-use lib.IntN.{ℤ, pos, nat_abs}
-use lib.ListN.{length, get_or, length-map, get_or-map}
+use Rattle.std.proofs.Common.{◌≡◌, refl, sym, ◌∙◌, subst, List, [], ℕ, ◌≤◌, ◌<◌, arith, T, ℤ, pos, nat_abs, length, get_or}
+use lib.ListN.{length-map, get_or-map}
 use Rattle.effects.specs.Check.{place_of}
 use Rattle.newtons.specs.Effect.{limit}
 use Rattle.effects.specs.inner.Sized.{EachAtMost, Seven}

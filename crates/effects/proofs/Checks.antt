@@ -1,13 +1,6 @@
 -- The check of the seven effects, one step over any of them. Assumes nothing.
-use mathlib.Core.Path.{◌≡◌, refl, subst}
-use mathlib.Core.List.{List, [], ◌∷◌, ◌++◌}
-use Prim.Native.Nat.{ℕ, zero, suc, ◌+◌, ◌≤◌}
-use native.Mathlib.Nat.{le_trans}
-use native.Mathlib.Omega.{arith}
-use lib.Dec.{lit≤}
-use lib.IntN.{ℤ, nat_abs}
-use lib.Ieee.{Float, binary64, of_int}
-use lib.ListN.{length, length-append}
+use Rattle.std.proofs.Common.{◌≡◌, refl, subst, List, [], ◌∷◌, ◌++◌, ℕ, zero, suc, ◌+◌, ◌≤◌, le_trans, arith, lit≤, ℤ, nat_abs, Float, length, length-append}
+use lib.Ieee.{binary64, of_int}
 use Rattle.effects.specs.declared.PerLoad.{PerLoad}
 use Rattle.effects.specs.declared.LoadEffect.{LoadEffect}
 use Rattle.std.specs.Prelude.{Ok, Err}

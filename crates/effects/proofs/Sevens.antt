@@ -1,11 +1,5 @@
 -- Seven numbers that 64 bits keep. Assumes nothing.
-use mathlib.Core.Bool.{Bool, true, ◌&&◌}
-use mathlib.Core.List.{List, [], ◌∷◌}
-use Prim.Native.Nat.{ℕ, zero, suc, zero-le, ◌≤◌, ◌<◌}
-use native.Mathlib.Omega.{arith}
-use lib.Dec.{T, leb, eqb, leb→le, le→leb, eqb→eq}
-use lib.IntN.{ℤ, pos, nat_abs}
-use lib.ListN.{length, get_or}
+use Rattle.std.proofs.Common.{Bool, true, ◌&&◌, List, [], ◌∷◌, ℕ, zero, suc, zero-le, ◌≤◌, ◌<◌, arith, T, leb, eqb, leb→le, le→leb, eqb→eq, ℤ, pos, nat_abs, length, get_or}
 use lib.Ieee.Fits.{and_l, and_r}
 use Rattle.effects.specs.inner.Sized.{EachAtMost, Seven}
 

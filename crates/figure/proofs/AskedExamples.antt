@@ -1,7 +1,7 @@
 -- What asking gives at the floors of the paper's columns, by computing it. By its name it is checked before the laws, so that a
 -- definition with another answer is refused for that answer.
 -- Assumes nothing.
-use mathlib.Core.Path.{refl}
+use Rattle.std.proofs.Common.{refl}
 use Rattle.lists.specs.Lists.{All, none, more, keep, some, total}
 use Rattle.member.specs.Member.{table4_2, table_factor}
 use Rattle.member.specs.Line.{is_formula}

@@ -1,13 +1,8 @@
 -- The reduced load of a line by the rate of its share, and which rate that is.
 -- Assumes nothing.
+use Rattle.std.proofs.Common.{◌≡◌, refl, sym, ◌∙◌, ap, Bool, true, false, ◌&&◌, ℕ, ◌+◌, ◌*◌, ◌/◌, ◌≤◌, ◌<◌, mul_assoc, mul_comm, mul-add, mul-le-mul, arith, leb, eqb, le-leb, eqb-true, eq-eqb, ne_eqb}
 use Rattle.std.specs.Prelude.{Some}
-use mathlib.Core.Path.{◌≡◌, refl, sym, ◌∙◌, ap}
-use mathlib.Core.Bool.{Bool, true, false, ◌&&◌}
-use Prim.Native.Nat.{ℕ, ◌+◌, ◌*◌, ◌/◌, ◌≤◌, ◌<◌}
-use native.Mathlib.Nat.{mul_assoc, mul_comm, mul-add, mul-le-mul}
-use native.Mathlib.Omega.{arith}
-use lib.Dec.{leb, eqb}
-use borrow.Author.Tests.{le-leb, lt-leb, eqb-true, eqb-false, eq-eqb, ne_eqb}
+use borrow.Author.Tests.{lt-leb, eqb-false}
 use Rattle.lists.proofs.Tests.{cases, same_test}
 use Rattle.member.specs.Line.{is_formula}
 use Rattle.reduction.specs.declared.InfluenceArea.{InfluenceArea}

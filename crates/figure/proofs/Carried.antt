@@ -1,16 +1,10 @@
 -- What is carried of some lines, which floors they have, and the formula lines' area.
 -- Assumes nothing.
-use mathlib.Core.Path.{◌≡◌, refl, sym, ◌∙◌, ap}
-use mathlib.Core.Bool.{Bool, true, false, cond, ◌||◌, or-true, or_self_left, false≢true}
-use mathlib.Core.List.{List, [], ◌∷◌, ◌++◌, map}
-use lib.ListN.{length, get_or}
+use Rattle.std.proofs.Common.{◌≡◌, refl, sym, ◌∙◌, ap, Bool, true, false, cond, ◌||◌, List, [], ◌∷◌, ◌++◌, map, length, get_or, ℕ, zero, suc, ◌+◌, ◌≤◌, ◌<◌, lt_of_not-le, arith, leb, eqb, leb-false, le-leb, eq-eqb, ne_eqb}
+use mathlib.Core.Bool.{or-true, or_self_left, false≢true}
 use Rattle.column.specs.Line.{unpacked}
-use Prim.Native.Nat.{ℕ, zero, suc, ◌+◌, ◌≤◌, ◌<◌}
-use native.Mathlib.Nat.{lt_of_not-le}
 use native.Mathlib.Decide.{dec_le}
-use native.Mathlib.Omega.{arith}
-use lib.Dec.{leb, eqb}
-use borrow.Author.Tests.{leb-false, le-leb, lt-leb, eq-eqb, ne_eqb}
+use borrow.Author.Tests.{lt-leb}
 use Rattle.lists.specs.Lists.{All, none, more, keep, some, total}
 use Rattle.lists.proofs.Tests.{cases}
 use Rattle.lists.proofs.Lists.{keep_passed, keep_failed, total_keep, all_so}

@@ -1,8 +1,6 @@
 -- The lines that numbers hold: within their limits, in order, and sums over them.
 -- Assumes nothing.
-use Rattle.std.proofs.Common.{◌≡◌, refl, sym, ◌∙◌, ap, arith, ℕ, zero, suc, ◌+◌, ◌≤◌, ◌<◌, Bool, cond, leb, List, [], ◌∷◌, ◌++◌, map, length, take, drop, get_or, sum_by, length-take, length-drop}
-use native.Mathlib.Nat.{le_trans}
-use borrow.Author.Tests.{leb-true, le-leb}
+use Rattle.std.proofs.Common.{◌≡◌, refl, sym, ◌∙◌, ap, arith, ℕ, zero, suc, ◌+◌, ◌≤◌, ◌<◌, Bool, cond, leb, List, [], ◌∷◌, ◌++◌, map, length, take, drop, get_or, sum_by, length-take, length-drop, le_trans, leb-true, le-leb}
 use Rattle.std.specs.List.{All as Each}
 use Rattle.std.specs.List.Sorted.{IsPartitionedBy}
 use Rattle.std.proofs.lemmas.List.{take-append-drop, map-append, take_more}

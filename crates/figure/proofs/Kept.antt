@@ -1,13 +1,11 @@
 -- The figure of lines kept where every line has the share that it had above.
 -- Assumes nothing.
+use Rattle.std.proofs.Common.{◌≡◌, refl, sym, ◌∙◌, ap, Bool, true, cond, ℕ, ◌≤◌, arith, eqb, eqb-true}
 use Rattle.std.specs.Prelude.{Option, None, Some, IsSome}
 use Rattle.std.specs.Option.{option_eq}
-use mathlib.Core.Path.{◌≡◌, refl, sym, ◌∙◌, ap, fun_ext}
-use mathlib.Core.Bool.{Bool, true, cond, false≢true}
-use Prim.Native.Nat.{ℕ, ◌≤◌}
-use native.Mathlib.Omega.{arith}
-use lib.Dec.{eqb}
-use borrow.Author.Tests.{lt-leb, eqb-true}
+use mathlib.Core.Path.{fun_ext}
+use mathlib.Core.Bool.{false≢true}
+use borrow.Author.Tests.{lt-leb}
 use Rattle.lists.proofs.Tests.{cases}
 use Rattle.reduction.specs.declared.share.Share.TheVariants.{Twentieths}
 use Rattle.reduction.specs.Share.{one_floor, other_twentieths, share_of}

@@ -1,12 +1,9 @@
 -- Floors marked as they are found: what is known of the marks, and one line more.
 -- Assumes nothing.
-use Rattle.std.proofs.Common.{◌≡◌, refl, sym, ◌∙◌, arith, ℕ, ◌+◌, ◌≤◌, ◌<◌, Bool, true, false, cond, eqb, List, [], ◌∷◌, ◌++◌, length, get_or, set, replicate, length-set}
-use mathlib.Core.Bool.{◌||◌}
+use Rattle.std.proofs.Common.{◌≡◌, refl, sym, ◌∙◌, arith, ℕ, ◌+◌, ◌≤◌, ◌<◌, Bool, true, false, cond, eqb, List, [], ◌∷◌, ◌++◌, length, get_or, set, replicate, length-set, ◌||◌, add_comm, get_or-set_same, get_or-set_other, eqb-true}
 use mathlib.Core.List.Permᴰ
-use native.Mathlib.Nat.{add_comm}
 use lib.ListN.{get_or-replicate, length-replicate}
-use lib.Seq.{get_or-set_same, get_or-set_other}
-use borrow.Author.Tests.{eqb-true, eqb-false}
+use borrow.Author.Tests.{eqb-false}
 use Rattle.lists.specs.Lists.{some}
 use Rattle.lists.specs.theorems.Orders.{Permuted}
 use Rattle.lists.proofs.Tests.{cases}

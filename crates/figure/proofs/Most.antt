@@ -1,12 +1,6 @@
 -- How large what holds at a floor can be, for a column that opening and entering gave, and how large the figure of one line.
 -- Assumes nothing.
-use mathlib.Core.Path.{◌≡◌, refl, sym, ◌∙◌, ap, subst}
-use mathlib.Core.Bool.{Bool, true, cond}
-use mathlib.Core.List.{List, append-nil}
-use Prim.Native.Nat.{ℕ, ◌≤◌}
-use native.Mathlib.Nat.{le_trans, mul-le-mul}
-use native.Mathlib.Omega.{arith}
-use lib.ListN.{length}
+use Rattle.std.proofs.Common.{◌≡◌, refl, sym, ◌∙◌, ap, subst, Bool, true, cond, List, append-nil, ℕ, ◌≤◌, le_trans, mul-le-mul, arith, length}
 use Rattle.refusal.specs.Said.{gives, refused, nothing}
 use Rattle.lists.specs.Lists.{All, none}
 use Rattle.reduction.specs.declared.InfluenceArea.{InfluenceArea}

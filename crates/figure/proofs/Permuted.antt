@@ -1,13 +1,7 @@
 -- Nothing that holds at a floor looks at the order of the lines.
 -- Assumes nothing.
-use mathlib.Core.Path.{◌≡◌, sym, ap}
-use mathlib.Core.Bool.{Bool, cond, ◌||◌}
-use mathlib.Core.List.{List}
-use Prim.Native.Nat.{ℕ, ◌+◌}
+use Rattle.std.proofs.Common.{◌≡◌, sym, ap, Bool, cond, ◌||◌, List, ℕ, ◌+◌, arith, eqb, ne_eqb}
 use native.Mathlib.Decide.{ℕ_discrete}
-use native.Mathlib.Omega.{arith}
-use lib.Dec.{eqb}
-use borrow.Author.Tests.{ne_eqb}
 use Rattle.lists.specs.Lists.{some}
 use Rattle.lists.specs.theorems.Orders.{Permuted}
 use Rattle.lists.proofs.Permuted.{permuted_same, some_permuted, total_permuted, keep_permuted}

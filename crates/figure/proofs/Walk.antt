@@ -1,8 +1,7 @@
 -- Going down the floors of a column: what is carried at the next floor, and what holds there in the table.
 -- Assumes nothing.
-use Rattle.std.proofs.Common.{◌≡◌, refl, sym, ◌∙◌, ap, arith, ℕ, zero, suc, ◌+◌, ◌-◌, ◌≤◌, ◌<◌, true, false, eqb, List, [], ◌∷◌, ◌++◌, Option, Some, map, Bool, add-one, length, take, drop, get_or, length-append, append_assoc, append-nil}
-use native.Mathlib.Nat.{add-zero}
-use borrow.Author.Tests.{eqb-true, eqb-false}
+use Rattle.std.proofs.Common.{◌≡◌, refl, sym, ◌∙◌, ap, arith, ℕ, zero, suc, ◌+◌, ◌-◌, ◌≤◌, ◌<◌, true, false, eqb, List, [], ◌∷◌, ◌++◌, Option, Some, map, Bool, add-one, length, take, drop, get_or, length-append, append_assoc, append-nil, add-zero, eqb-true}
+use borrow.Author.Tests.{eqb-false}
 use Rattle.std.specs.List.{IsChunkByPrefix}
 use Rattle.std.proofs.lemmas.List.{map-append, take-append-drop, drop-drop, get_or-drop, get_or_default, get_or_append_left, get_or-append-add}
 use Rattle.std.proofs.Math.Seq.{length-take-le, take-append_seam, drop-append_seam}

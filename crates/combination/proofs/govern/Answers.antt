@@ -1,9 +1,6 @@
 -- `combination::govern` meets its contract: before the load at an index no number is beyond the limit. Assumes nothing.
-use Rattle.std.proofs.Common.{◌≡◌, refl, sym, ◌∙◌, ap, rules, arith, Bool}
+use Rattle.std.proofs.Common.{◌≡◌, refl, sym, ◌∙◌, ap, rules, arith, Bool, ℤ, w64, SFits, to_z, of_z}
 use mathlib.Core.Path.{subst⁻¹}
-use lib.IntN.{ℤ}
-use mir.Syntax.{w64}
-use mir.Val.{SFits, to_z, of_z}
 use mir.ValLaws.{to_z-of_z}
 use Rattle.refusal.specs.Refusal.{number_of}
 use Rattle.refusal.specs.Said.{gives, told}

@@ -1,6 +1,5 @@
 -- `combination::govern` meets its contract: before the load at an index no number is beyond the limit. Assumes nothing.
-use Rattle.std.proofs.Common.{ℕ, ◌<◌, ◌≤◌, get_or}
-use lib.IntN.{nat_abs}
+use Rattle.std.proofs.Common.{ℕ, ◌<◌, ◌≤◌, get_or, nat_abs}
 use Rattle.newtons.specs.Effect.{limit}
 use Rattle.effects.specs.declared.Load.TheVariants.{Dead}
 use Rattle.effects.specs.Check.{loads, of_load}

@@ -1,5 +1,5 @@
 -- `effects::check` meets its contract: each load in turn is taken, and the next checked, or the answer is its refusal. Assumes nothing.
-use Rattle.std.proofs.Common.{◌≡◌, sym, rules}
+use Rattle.std.proofs.Common.{◌≡◌, sym, rules, w64}
 use Rattle.std.specs.Prelude.{Result, List, ℤ}
 use Rattle.std.specs.Result.{IsErrAnd}
 use Rattle.std.proofs.lemmas.Result.{err_from_is_err_and}
@@ -9,7 +9,6 @@ use Rattle.refusal.specs.Said.{Told, refused}
 use Rattle.effects.specs.declared.PerLoad.{PerLoad}
 use Rattle.effects.specs.declared.LoadEffect.{LoadEffect}
 use Rattle.effects.specs.Check.{listed, newtons_of, checked_of, said_checked}
-use mir.Syntax.{w64}
 use mir.ValLaws.{to_z-of_z}
 use Rattle.effects.proofs.Checks.{goes_on, ends, all_taken}
 use Rattle.effects.proofs.check.Goals as goal

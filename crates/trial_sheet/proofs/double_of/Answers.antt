@@ -1,9 +1,5 @@
 -- `trial_sheet::double_of` meets its contract: a double keeps an effect within the limit. Assumes nothing.
-use Prim.Native.Nat.{◌≤◌}
-use native.Mathlib.Omega.{arith}
-use mir.Syntax.{w64}
-use mir.Val.{to_z, of_z}
-use borrow.Author.Tests.{leb-true}
+use Rattle.std.proofs.Common.{◌≤◌, arith, w64, to_z, of_z, leb-true}
 use Rattle.member.proofs.Tests.{passed}
 use Rattle.newtons.specs.Effect.{magnitude_of, limit}
 use Rattle.newtons.proofs.Values.{in_float_lem}

@@ -1,11 +1,6 @@
 -- `combination::search::best_of` meets its contract: searching the sums from index i on gives what the whole search gives.
 -- Assumes nothing.
-use Rattle.std.proofs.Common.{◌≡◌, ◌+◌, ◌-◌, length, get_or, take, drop, refl, sym, ◌∙◌, arith, rules, pos}
-use mathlib.Core.Path.{ap₂}
-use lib.ListN.{length-drop}
-use lib.Seq.{take_all}
-use mir.Syntax.{w64}
-use mir.Val.{to_z, of_z}
+use Rattle.std.proofs.Common.{◌≡◌, ◌+◌, ◌-◌, length, get_or, take, drop, refl, sym, ◌∙◌, arith, rules, pos, ap₂, length-drop, take_all, w64, to_z, of_z}
 use mir.ValLaws.{to_z-of_z}
 use Rattle.combination.proofs.Governs.{best_end, best_first, best_turn}
 use Rattle.combination.proofs.search.best_of.Goals as goal

@@ -1,8 +1,5 @@
 -- `combination::search::governing_of` meets its contract: both searches are of the definition's sums. Assumes nothing.
-use mathlib.Core.Path.{◌≡◌, sym, ◌∙◌, ap, ap₂, subst}
-use Prim.Native.Nat.{◌^◌, ◌≤◌}
-use native.Mathlib.Omega.{arith}
-use lib.IntN.{nat_abs}
+use Rattle.std.proofs.Common.{◌≡◌, sym, ◌∙◌, ap, ap₂, subst, ◌^◌, ◌≤◌, arith, nat_abs, rules}
 use Rattle.newtons.specs.Effect.{limit}
 use Rattle.effects.specs.Check.{newtons_of}
 use Rattle.effects.specs.inner.Sized.{Seven}
@@ -13,7 +10,6 @@ use Rattle.combination.specs.Governing.{greater, less, sums, best}
 use Rattle.combination.specs.Combine.{row_of, governing}
 use Rattle.combination.proofs.Governs.{less_order, greater_order}
 use Rattle.combination.proofs.Answers.{best_held}
-use borrow.Author.Rules.{rules}
 use Rattle.combination.proofs.search.governing_of.Goals as goal
 use Rattle.combination.proofs.search.governing_of.Goals.{After-best_of, After-best_of-2, After-in_order}
 

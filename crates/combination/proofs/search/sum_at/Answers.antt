@@ -1,15 +1,10 @@
 -- `combination::search::sum_at` meets its contract: a row of the table is the definition's, and fits. Assumes nothing.
-use mathlib.Core.Path.{◌≡◌, sym, ◌∙◌, ap, subst}
-use mathlib.Core.List.{List, []}
-use lib.IntN.{ℤ}
-use lib.ListN.{get_or}
-use mir.Syntax.{w64}
+use Rattle.std.proofs.Common.{◌≡◌, sym, ◌∙◌, ap, subst, List, [], ℤ, get_or, w64, rules}
 use mir.ValLaws.{to_z-of_z}
 use Rattle.effects.specs.inner.Sized.{Seven}
 use Rattle.combination.specs.Factors.{factors}
 use Rattle.combination.specs.Governing.{sum_of}
 use Rattle.combination.proofs.Table.{row_fits, sum_at}
-use borrow.Author.Rules.{rules}
 use Rattle.combination.proofs.search.sum_at.Goals as goal
 use Rattle.combination.proofs.search.sum_at.Goals.{Start}
 

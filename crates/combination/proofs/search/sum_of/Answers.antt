@@ -1,10 +1,6 @@
 -- `combination::search::sum_of` meets its contract: with the products from index j on the sum is that of the row. Assumes nothing.
-use Rattle.std.proofs.Common.{◌≡◌, ℕ, ◌+◌, ◌*◌, ◌≤◌, sym, ◌∙◌, ap, arith, ℤ, pos, ◌+ℤ◌, ◌*ℤ◌, get_or, drop, nat_abs, add-one}
-use native.Mathlib.Nat.{le_trans}
-use lib.Dec.{lit<}
+use Rattle.std.proofs.Common.{◌≡◌, ℕ, ◌+◌, ◌*◌, ◌≤◌, sym, ◌∙◌, ap, arith, ℤ, pos, ◌+ℤ◌, ◌*ℤ◌, get_or, drop, nat_abs, add-one, le_trans, lit<, w64, to_z, of_z}
 use lib.IntN.{+ℤ_assoc, +ℤ_idl, +ℤ_idr}
-use mir.Syntax.{w64}
-use mir.Val.{to_z, of_z}
 use Rattle.newtons.proofs.Word.{small_fits, kept}
 use Rattle.combination.specs.Governing.{sum_of}
 use Rattle.combination.proofs.RowSums.{factor_kept, most_product, most_sum, size_product, size_sum, sum_from, sum_end}

@@ -1,11 +1,5 @@
 -- `combination::search::sums_of` meets its contract: 25 rows, the same of each. Assumes nothing.
-use mathlib.Core.Path.{◌≡◌, ◌∙◌, ap}
-use Prim.Native.Nat.{ℕ}
-use lib.Dec.{lit<}
-use lib.IntN.{ℤ, pos}
-use lib.ListN.{get_or}
-use mir.Syntax.{w64}
-use mir.Val.{to_z, of_z}
+use Rattle.std.proofs.Common.{◌≡◌, ◌∙◌, ap, ℕ, lit<, ℤ, pos, get_or, w64, to_z, of_z}
 use Rattle.newtons.proofs.Word.{kept}
 use Rattle.combination.specs.Factors.{combinations, factors}
 use Rattle.combination.specs.Governing.{sums}

@@ -1,7 +1,6 @@
 -- `exports::combinations::bungero_combine` meets its contract. Assumes nothing.
-use Rattle.std.proofs.Common.{◌≡◌, ◌∙◌, ap, refl, ℕ, ℤ, pos}
+use Rattle.std.proofs.Common.{◌≡◌, ◌∙◌, ap, refl, ℕ, ℤ, pos, ap₂}
 use Rattle.std.specs.Prelude.{Float}
-use mathlib.Core.Path.{ap₂}
 use lib.Ieee.{of_bits}
 use Rattle.refusal.specs.Said.{told}
 use Rattle.combination.specs.declared.GoverningRow.{GoverningRow}

@@ -1,7 +1,6 @@
 -- `figure::at_floor::carried_at` meets its contract: the lines down to the floor stand first, and the last of them tells whether
 -- one has it. Assumes nothing.
-use Rattle.std.proofs.Common.{◌≡◌, sym, ◌∙◌, arith, rules, ℕ, ◌+◌, ◌-◌, ◌≤◌, ◌<◌, true, false, leb, List, map, length, take, drop, get_or, length-take, length-drop}
-use borrow.Author.Tests.{leb-true, leb-false}
+use Rattle.std.proofs.Common.{◌≡◌, sym, ◌∙◌, arith, rules, ℕ, ◌+◌, ◌-◌, ◌≤◌, ◌<◌, true, false, leb, List, map, length, take, drop, get_or, length-take, length-drop, leb-true, leb-false}
 use Rattle.std.specs.List.Sorted.{IsPartitionPoint}
 use Rattle.std.proofs.lemmas.List.{get_or-take, get_or-drop, get_or_default}
 use Rattle.std.proofs.lemmas.List.Sorted.{IsPartitionPoint-from_clause}

@@ -1,8 +1,6 @@
 -- `figure::rates::formula_load` meets its contract: where the rate is not in doubt it gives the reduced load. Assumes nothing.
-use mathlib.Core.Path.{◌≡◌, subst⁻¹}
-use Prim.Native.Nat.{◌*◌, ◌≤◌}
-use native.Mathlib.Nat.{mul-le-mul}
-use native.Mathlib.Omega.{arith}
+use Rattle.std.proofs.Common.{◌≡◌, ◌*◌, ◌≤◌, mul-le-mul, arith}
+use mathlib.Core.Path.{subst⁻¹}
 use Rattle.figure.specs.declared.rates.Rate.{Rate}
 use Rattle.figure.specs.inner.Rates.{rate_of}
 use Rattle.figure.specs.inner.Shared.{formula_load}

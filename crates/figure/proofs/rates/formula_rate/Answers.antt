@@ -1,6 +1,5 @@
 -- `figure::rates::formula_rate` meets its contract. Assumes nothing.
-use mathlib.Core.Path.{◌≡◌, sym, ◌∙◌}
-use native.Mathlib.Omega.{arith}
+use Rattle.std.proofs.Common.{◌≡◌, sym, ◌∙◌, arith}
 use Rattle.std.specs.Prelude.{Some}
 use Rattle.reduction.specs.Share.{clamped_of}
 use Rattle.reduction.proofs.Twentieths.{clamped_most}

@@ -1,8 +1,5 @@
 -- `figure::rates::influence_of` meets its contract: a member's code is a row of the table. Assumes nothing.
-use mathlib.Core.Path.{◌≡◌, ◌∙◌}
-use Prim.Native.Nat.{◌≤◌}
-use native.Mathlib.Nat.{mul-le-mul}
-use native.Mathlib.Omega.{arith}
+use Rattle.std.proofs.Common.{◌≡◌, ◌∙◌, ◌≤◌, mul-le-mul, arith}
 use Rattle.refusal.proofs.Said.{gives_it, gives_ok}
 use Rattle.member.specs.Member.{table_factor}
 use Rattle.member.proofs.Member.{factor_known, factor_most}

@@ -1,7 +1,5 @@
 -- `figure::rates::is_formula` meets its contract. Assumes nothing.
-use mathlib.Core.Path.{◌∙◌, ap}
-use lib.Dec.{leb}
-use Prim.Native.Nat.{ℕ}
+use Rattle.std.proofs.Common.{◌∙◌, ap, leb, ℕ}
 use Rattle.figure.proofs.ByRate.{key_formula}
 use Rattle.figure.proofs.rates.is_formula.Goals as goal
 

@@ -1,9 +1,5 @@
 -- `figure::rates::line_figure` meets its contract: the key tells which rate the line has. Assumes nothing.
-use mathlib.Core.Path.{◌≡◌, sym, ◌∙◌}
-use mathlib.Core.Bool.{true, false}
-use Prim.Native.Nat.{◌+◌, ◌*◌, ◌/◌, ◌≤◌}
-use native.Mathlib.Nat.{mul-le-mul}
-use native.Mathlib.Omega.{arith}
+use Rattle.std.proofs.Common.{◌≡◌, sym, ◌∙◌, true, false, ◌+◌, ◌*◌, ◌/◌, ◌≤◌, mul-le-mul, arith}
 use Rattle.reduction.proofs.Shares.{other_within}
 use Rattle.reduction.proofs.Fits.{formula_load_lem}
 use Rattle.column.specs.Line.{unpacked}

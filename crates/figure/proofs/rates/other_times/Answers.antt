@@ -1,7 +1,5 @@
 -- `figure::rates::other_times` meets its contract: the key tells class 3 from the others. Assumes nothing.
-use mathlib.Core.Path.{sym, ◌∙◌, ap}
-use Prim.Native.Nat.{ℕ}
-use native.Mathlib.Omega.{arith}
+use Rattle.std.proofs.Common.{sym, ◌∙◌, ap, ℕ, arith}
 use Rattle.figure.specs.inner.Rates.{twentieths_rate}
 use Rattle.figure.proofs.ByRate.{key_other, key_assembly}
 use Rattle.figure.proofs.rates.other_times.Goals as goal

@@ -1,9 +1,8 @@
 -- `figure::rates::searched_load` meets its contract: class and load are within their limits. Assumes nothing.
-use mathlib.Core.Path.{◌≡◌, refl, ◌∙◌}
+use Rattle.std.proofs.Common.{◌≡◌, refl, ◌∙◌, arith}
 use Rattle.refusal.specs.Said.{gives}
 use Rattle.refusal.proofs.Said.{gives_it, gives_ok}
 use Rattle.member.proofs.Tests.{in_limits}
-use native.Mathlib.Omega.{arith}
 use Rattle.reduction.specs.Reduced.{reduced_of}
 use Rattle.reduction.proofs.Reduced.{reduced_known}
 use Rattle.figure.specs.inner.Shared.{formula_load}

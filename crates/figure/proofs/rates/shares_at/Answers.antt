@@ -1,7 +1,5 @@
 -- `figure::rates::shares_at` meets its contract. Assumes nothing.
-use mathlib.Core.Path.{ap}
-use Prim.Native.Nat.{ℕ, ◌*◌}
-use native.Mathlib.Omega.{arith}
+use Rattle.std.proofs.Common.{ap, ℕ, ◌*◌, arith}
 use Rattle.reduction.proofs.Shares.{heavy_within}
 use Rattle.figure.specs.inner.Rates.{twentieths_rate}
 use Rattle.figure.proofs.rates.shares_at.Goals as goal

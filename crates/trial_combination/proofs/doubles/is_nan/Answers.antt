@@ -1,6 +1,6 @@
 -- `trial_combination::doubles::is_nan` meets its contract. Assumes nothing.
+use Rattle.std.proofs.Common.{eq-eqb, ne_eqb}
 use lib.Ieee.{nan_bits}
-use borrow.Author.Tests.{eq-eqb, ne_eqb}
 use Rattle.trial_combination.proofs.doubles.is_nan.Goals as goal
 
 pub returns-then-bits-ne2047 : goal.returns-then-bits-ne2047
