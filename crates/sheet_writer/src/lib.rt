@@ -22,7 +22,7 @@ mod lines;
 // The bytes of a buffer that suffice for every sheet; none that is written has more than 10,371.
 pub const ROOM: usize = 12288;
 
-// The six effects of a sheet in newtons, as they are handed over.
+// The six effects of a sheet in newtons, as C hands them over: a call for C takes no generic struct.
 #[repr(C)]
 #[derive(Clone, Copy)]
 pub struct SheetDoubles {
