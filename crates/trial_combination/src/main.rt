@@ -49,7 +49,8 @@ fn answer_all<W: Write>(out: &mut W, text: &[u8]) -> io::Result<()> {
     Ok(())
 }
 
-// Reads all questions, then answers them.
+// Reads all questions, then answers them. The trials begin alike; a crate for these lines would be
+// longer than they are.
 fn main(rt: HostRuntime) -> io::Result<()> {
     let mut text = Vec::new(rt.alloc());
     rt.reader().take(ROOM as u64).read_to_end(&mut text)?;
