@@ -22,6 +22,7 @@ pub enum Load {
 
 impl Load {
     // The place of a load's effect in the order of checking, 1 to 7.
+    #[tactic(auto, using(crate::proofs::Places::numbered))]
     pub fn place(self) -> u64
         ensures { result ≡ place_of self }
     {

@@ -1,52 +1,40 @@
 -- What an answer says leaves one answer: each refusal has its own number.
 -- Assumes nothing.
-use Rattle.std.proofs.Common.{◌≡◌, refl, sym, ◌∙◌, ap, false, List, [], ◌∷◌, ℕ, zero, suc, ◌-◌, ◌≤◌, arith, eqb, get_or, ne_eqb}
+use denote.Enum.Bare.{tag_one}
+use denote.Enum.Declared.{tag_of}
+use Rattle.std.proofs.Common.{◌≡◌, refl, ap, false, ℕ, zero, suc, ◌+◌, ◌≤◌, arith, eqb, ne_eqb}
 use Rattle.std.specs.Prelude.{Result, Ok, Err, IsOk}
 use Rattle.refusal.specs.declared.Refusal.{Refusal}
 use Rattle.refusal.specs.declared.Refusal.TheVariants.{UnknownCode, TooManyLines, FloorOutOfRange, UnknownClass, LoadOutOfRange, AreaOutOfRange}
 use Rattle.refusal.specs.declared.Refusal.TheVariants.{NoLineAtFloor, EffectNotWhole, EffectOutOfRange, SheetMalformed, SheetTooLong, BufferTooShort}
 use Rattle.refusal.specs.declared.Refused.{Refused}
+use Rattle.refusal.specs.contracts.Refusal.{the_type}
 use Rattle.refusal.specs.Refusal.{number_of}
 use Rattle.refusal.specs.Said.{gives, said, told}
 
-refusals : List Refusal
-refusals =
-    UnknownCode
-    ∷ TooManyLines
-    ∷ FloorOutOfRange
-    ∷ UnknownClass
-    ∷ LoadOutOfRange
-    ∷ AreaOutOfRange
-    ∷ NoLineAtFloor
-    ∷ EffectNotWhole
-    ∷ EffectOutOfRange
-    ∷ SheetMalformed
-    ∷ SheetTooLong
-    ∷ BufferTooShort
-    ∷ []
-
--- the refusal of a number
-refusal_of : ℕ → Refusal
-refusal_of n = get_or refusals (n - 1) UnknownCode
-
-of_number : (r : Refusal) → refusal_of (number_of r) ≡ r
-unfolding refusal_of refusals number_of
-of_number UnknownCode = refl
-of_number TooManyLines = refl
-of_number FloorOutOfRange = refl
-of_number UnknownClass = refl
-of_number LoadOutOfRange = refl
-of_number AreaOutOfRange = refl
-of_number NoLineAtFloor = refl
-of_number EffectNotWhole = refl
-of_number EffectOutOfRange = refl
-of_number SheetMalformed = refl
-of_number SheetTooLong = refl
-of_number BufferTooShort = refl
+-- the number of a case is the one that stands beside it, and the cases are numbered in a row
+pub numbered : (r : Refusal) → tag_of the_type r + 1 ≡ number_of r
+unfolding number_of
+numbered UnknownCode = refl
+numbered TooManyLines = refl
+numbered FloorOutOfRange = refl
+numbered UnknownClass = refl
+numbered LoadOutOfRange = refl
+numbered AreaOutOfRange = refl
+numbered NoLineAtFloor = refl
+numbered EffectNotWhole = refl
+numbered EffectOutOfRange = refl
+numbered SheetMalformed = refl
+numbered SheetTooLong = refl
+numbered BufferTooShort = refl
 
 -- two refusals with one number are one refusal
 pub number_injective : (q r : Refusal) → number_of q ≡ number_of r → q ≡ r
-number_injective q r e = sym (of_number q) ∙ (ap refusal_of e ∙ of_number r)
+number_injective q r e = tag_one the_type tt q r (omega (arith, numbered q, numbered r))
+
+-- no refusal has the number 0
+pub number_positive : (r : Refusal) → 1 ≤ number_of r
+number_positive r = omega (arith, numbered r)
 
 -- two answers that say the same are one answer
 pub said_injective : {A : Type 0} (a b : Result A Refusal) → said a ≡ said b → a ≡ b
@@ -70,22 +58,6 @@ told_injective (Err q) (Err r) e =
     ap Err whole
 told_injective (Ok x) (Err r) e = cc
 told_injective (Err q) (Ok y) e = cc
-
--- no refusal has the number 0
-pub number_positive : (r : Refusal) → 1 ≤ number_of r
-unfolding number_of
-number_positive UnknownCode = omega arith
-number_positive TooManyLines = omega arith
-number_positive FloorOutOfRange = omega arith
-number_positive UnknownClass = omega arith
-number_positive LoadOutOfRange = omega arith
-number_positive AreaOutOfRange = omega arith
-number_positive NoLineAtFloor = omega arith
-number_positive EffectNotWhole = omega arith
-number_positive EffectOutOfRange = omega arith
-number_positive SheetMalformed = omega arith
-number_positive SheetTooLong = omega arith
-number_positive BufferTooShort = omega arith
 
 -- so a number tells whether something is refused
 pub by_number : {P : Type 0} (n : ℕ) → (n ≡ 0 → P) → (1 ≤ n → P) → P

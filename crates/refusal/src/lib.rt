@@ -35,6 +35,7 @@ pub enum Refusal {
 
 impl Refusal {
     // The paper's number of a refusal.
+    #[tactic(auto, using(crate::proofs::Said::numbered))]
     pub fn number(self) -> u64
         ensures { result ≡ number_of self }
     {
