@@ -1,3 +1,4 @@
 -- Laws of the definitions, for the proofs here and in the crates above.
 pub mod Kept
 pub mod ReadOn
+pub mod Seen

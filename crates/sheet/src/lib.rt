@@ -14,7 +14,10 @@ use sheet_lines::EFFECTS;
 use steps::Draft;
 use text::scan::line_end;
 
+mod lent;
 mod steps;
+
+pub use lent::SheetRef;
 
 // The most bytes that a sheet may have.
 pub const LONGEST: usize = 32768;
