@@ -1,7 +1,7 @@
 -- What the order of a list does not change: which elements pass a test, sums, and what holds of each element.
 -- Assumes nothing.
 use Rattle.std.proofs.Common.{◌≡◌, refl, sym, ◌∙◌, ap, subst, Bool, true, false, cond, ◌||◌, List, ◌∷◌, ℕ, ◌+◌, arith}
-use mathlib.Core.Bool.{or_assoc, or_comm}
+use Rattle.std.proofs.Math.Bool.{or_assoc, or_comm}
 use mathlib.Core.List.Permᴰ
 use Rattle.lists.specs.Lists.{All, none, more, keep, some, total}
 use Rattle.lists.specs.theorems.Orders.{Permuted}

@@ -1,7 +1,7 @@
 -- Case analysis on a test, and two comparisons that say the same.
 -- Assumes nothing.
 use Rattle.std.proofs.Common.{◌≡◌, refl, Bool, true, false, ℕ, ◌≤◌, lt_of_not-le, not-le_of_lt, leb, leb-true, leb-false, le-leb}
-use borrow.Author.Tests.{lt-leb}
+use Rattle.std.proofs.lemmas.Bool.{lt-leb}
 
 -- what holds where a test is passed and where it is failed holds of the test
 pub cases : (P : Bool → Type 0) (b : Bool) → (b ≡ true → P true) → (b ≡ false → P false) → P b

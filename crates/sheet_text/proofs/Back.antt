@@ -1,7 +1,7 @@
 -- Lines that say a sheet that keeps the limits are read as that sheet: each is taken in turn.
 -- Assumes nothing.
 use Rattle.std.proofs.Common.{◌≡◌, refl, sym, ◌∙◌, ap, true, List, [], ◌∷◌, ◌++◌, append-nil, append_assoc, map, ℕ, zero, suc, ◌+◌, ◌*◌, ◌≤◌, ◌<◌, arith, add-one, ℤ, pos, length, take, drop, set, get_or, replicate, length-append, length-drop, take_all, length-take-le, le-leb, le-ltb}
-use mathlib.Core.Path.{subst⁻¹}
+use Rattle.std.proofs.Math.Path.{subst⁻¹}
 use Rattle.member.specs.Between.{between}
 use Rattle.member.proofs.Tests.{limits}
 use Rattle.lists.specs.Lists.{none as nil, more as and}

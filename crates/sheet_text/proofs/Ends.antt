@@ -1,9 +1,8 @@
 -- Reading a text ends with the sheet that it says, or stops at the first fault.
 -- Assumes nothing.
 use Rattle.std.proofs.Common.{◌≡◌, refl, sym, ◌∙◌, ap, Bool, true, false, cond, List, [], ◌∷◌, ◌++◌, append-nil, append_assoc, ℕ, ◌+◌, ◌≤◌, ◌<◌, arith, eqb, ltb, length, take, drop, length-append, take_at, drop_at, take_all, eqb-true, leb-true, lt-ltb, le-ltb, ltb-true, ltb-false}
-use mathlib.Core.Path.{subst⁻¹}
-use mathlib.Core.Bool.{false≢true}
-use borrow.Author.Tests.{eqb-false}
+use Rattle.std.proofs.Math.Path.{subst⁻¹}
+use Rattle.std.proofs.lemmas.Bool.{false≢true, eqb-false}
 use Rattle.sheet_lines.specs.declared.Due.{Due}
 use Rattle.sheet_lines.specs.declared.Due.TheVariants as D
 use Rattle.sheet_lines.specs.Form.{effect_keys, effect_count}

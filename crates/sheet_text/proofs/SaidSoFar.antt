@@ -1,7 +1,6 @@
 -- One line: where it is taken, the lines so far and the line say the sheet then.
 -- Assumes nothing.
 use Rattle.std.proofs.Common.{◌≡◌, refl, ap, subst, List, [], ◌∷◌, ◌++◌, append-nil, append_assoc, ℕ, zero, suc, ◌+◌, ◌<◌, arith, add-one, ℤ, length, take, set, take-suc-set}
-use mathlib.Core.Path.{subst⁻¹}
 use Rattle.column.specs.declared.Line.{Line}
 use Rattle.column.specs.declared.Column.{Column}
 use Rattle.lists.specs.Lists.{none}
@@ -11,6 +10,7 @@ use Rattle.column.proofs.Columns.{column_lines, more_lines}
 use Rattle.column.proofs.Reach.{no_condition, opened_column}
 use Rattle.sheet_lines.specs.declared.Due.{Due}
 use Rattle.std.specs.Prelude.{Option}
+use Rattle.std.proofs.Math.Path.{subst⁻¹}
 use Rattle.refusal.specs.Said.{gives}
 use Rattle.sheet_lines.specs.declared.Form.{Form}
 use Rattle.refusal.specs.Refusal.{number_of}
