@@ -2,7 +2,7 @@
 -- Assumes nothing.
 use Rattle.std.proofs.Common.{◌≡◌, refl, sym, ◌∙◌, ap, Bool, true, false, ◌&&◌, ℕ, ◌+◌, ◌*◌, ◌/◌, ◌≤◌, ◌<◌, mul_assoc, mul_comm, mul-add, mul-le-mul, arith, leb, eqb, le-leb, eqb-true, eq-eqb, ne_eqb}
 use Rattle.std.specs.Prelude.{Some}
-use borrow.Author.Tests.{lt-leb, eqb-false}
+use Rattle.std.proofs.lemmas.Bool.{lt-leb, eqb-false}
 use Rattle.lists.proofs.Tests.{cases, same_test}
 use Rattle.member.specs.Line.{is_formula}
 use Rattle.reduction.specs.declared.InfluenceArea.{InfluenceArea}
@@ -123,16 +123,16 @@ module _ (number : ℕ) (ok : InLimits (unpacked number)) where
 -- R × area of a line by what its share's rate gives, and that it is no more than the largest load on the largest area
 module _ (s : Shares) (l : Line) (ok : InLimits l) where
   figure_most : {p : ℕ} → p ≡ figure_by s l → (p ≡ figure_by s l) × (p ≤ 10000000000)
-  figure_most e = (e, rw e (line_most s.floors s.influence l ok))
+  figure_most e = (e, rw e (line_most s.carried.floors s.carried.influence l ok))
 
   pub figure_formula : is_formula_line l ≡ true → {r : ℕ} → r ≡ formula_load s l.load
       → (r * l.area.0 ≡ figure_by s l) × (r * l.area.0 ≤ 10000000000)
   unfolding is_formula_line line_figure
   figure_formula e q = figure_most (rw (q, formula_class l.load l.class e))
 
-  pub figure_other : is_formula_line l ≡ false → {t : ℕ} → t ≡ (twentieths_rate (other_twentieths l.class s.floors)).times
+  pub figure_other : is_formula_line l ≡ false → {t : ℕ} → t ≡ (twentieths_rate (other_twentieths l.class s.carried.floors)).times
       → let r = (l.load * t + 63753436) / 67108864 in (r * l.area.0 ≡ figure_by s l) × (r * l.area.0 ≤ 10000000000)
   unfolding is_formula_line line_figure twentieths_rate
   figure_other e q =
-      let k = other_twentieths l.class s.floors in
-      figure_most (rw (share_other l.load l.class s.floors s.influence e, q, twentieths_by k l.load (other_within l.class s.floors).1 ok.load.1))
+      let k = other_twentieths l.class s.carried.floors in
+      figure_most (rw (share_other l.load l.class s.carried.floors s.carried.influence e, q, twentieths_by k l.load (other_within l.class s.carried.floors).1 ok.load.1))

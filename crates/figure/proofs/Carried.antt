@@ -1,10 +1,10 @@
 -- What is carried of some lines, which floors they have, and the formula lines' area.
 -- Assumes nothing.
 use Rattle.std.proofs.Common.{◌≡◌, refl, sym, ◌∙◌, ap, Bool, true, false, cond, ◌||◌, List, [], ◌∷◌, ◌++◌, map, length, get_or, ℕ, zero, suc, ◌+◌, ◌≤◌, ◌<◌, lt_of_not-le, arith, leb, eqb, leb-false, le-leb, eq-eqb, ne_eqb}
-use mathlib.Core.Bool.{or-true, or_self_left, false≢true}
+use Rattle.std.proofs.Math.Bool.{or-true, or_self_left}
+use Rattle.std.proofs.Math.Decide.{dec_le}
+use Rattle.std.proofs.lemmas.Bool.{false≢true, lt-leb}
 use Rattle.column.specs.Line.{unpacked}
-use native.Mathlib.Decide.{dec_le}
-use borrow.Author.Tests.{lt-leb}
 use Rattle.lists.specs.Lists.{All, none, more, keep, some, total}
 use Rattle.lists.proofs.Tests.{cases}
 use Rattle.lists.proofs.Lists.{keep_passed, keep_failed, total_keep, all_so}

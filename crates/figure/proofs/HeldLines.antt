@@ -79,7 +79,7 @@ pub areas_most : (ns : List ℕ) → Lined ns → areas ns ≤ 51200000
 areas_most ns h = omega (arith, h.0, sum_by-le (λ n. formula_area (unpacked n)) 200000 ns (λ k d q. area_most _ (h.1 k d q)))
 
 pub figures_most : (s : Shares) (ns : List ℕ) → Lined ns → figures s ns ≤ 2560000000000
-figures_most s ns h = omega (arith, h.0, sum_by-le (λ n. figure_by s (unpacked n)) 10000000000 ns (λ k d q. line_most s.floors s.influence _ (h.1 k d q)))
+figures_most s ns h = omega (arith, h.0, sum_by-le (λ n. figure_by s (unpacked n)) 10000000000 ns (λ k d q. line_most s.carried.floors s.carried.influence _ (h.1 k d q)))
 
 -- one line more
 pub areas_more : (ns : List ℕ) (i : ℕ) → Lined ns → i < length ns

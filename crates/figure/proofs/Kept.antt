@@ -3,9 +3,8 @@
 use Rattle.std.proofs.Common.{◌≡◌, refl, sym, ◌∙◌, ap, Bool, true, cond, ℕ, ◌≤◌, arith, eqb, eqb-true}
 use Rattle.std.specs.Prelude.{Option, None, Some, IsSome}
 use Rattle.std.specs.Option.{option_eq}
-use mathlib.Core.Path.{fun_ext}
-use mathlib.Core.Bool.{false≢true}
-use borrow.Author.Tests.{lt-leb}
+use Rattle.std.proofs.Math.Path.{fun_ext}
+use Rattle.std.proofs.lemmas.Bool.{false≢true, lt-leb}
 use Rattle.lists.proofs.Tests.{cases}
 use Rattle.reduction.specs.declared.share.Share.TheVariants.{Twentieths}
 use Rattle.reduction.specs.Share.{one_floor, other_twentieths, share_of}
@@ -21,14 +20,14 @@ unfolding other_twentieths one_floor
 other_below class n h = rw (lt-leb n 1 h)
 
 -- from the second floor on, where the formula lines' share is clamped, a line's share has neither n nor X
-share_below : (s : Shares) (l : Line) {k : ℕ} → 2 ≤ s.floors → s.clamped ≡ Some k
-    → share_of l.load l.class s.floors s.influence ≡ Twentieths (cond (is_formula_line l) k (other_twentieths l.class 2))
+share_below : (s : Shares) (l : Line) {k : ℕ} → 2 ≤ s.carried.floors → s.clamped ≡ Some k
+    → share_of l.load l.class s.carried.floors s.carried.influence ≡ Twentieths (cond (is_formula_line l) k (other_twentieths l.class 2))
 unfolding is_formula_line
 share_below s l {k} h some =
     let clamped = sym s.clamped_is ∙ some in
-    cases (λ (b : Bool). share_of l.load l.class s.floors s.influence ≡ Twentieths (cond b k (other_twentieths l.class 2))) (is_formula_line l)
-    (λ q. share_clamped l.load l.class s.floors s.influence q clamped)
-    (λ q. share_other l.load l.class s.floors s.influence q ∙ ap Twentieths (other_below l.class s.floors h))
+    cases (λ (b : Bool). share_of l.load l.class s.carried.floors s.carried.influence ≡ Twentieths (cond b k (other_twentieths l.class 2))) (is_formula_line l)
+    (λ q. share_clamped l.load l.class s.carried.floors s.carried.influence q clamped)
+    (λ q. share_other l.load l.class s.carried.floors s.carried.influence q ∙ ap Twentieths (other_below l.class s.carried.floors h))
 
 both : (a b : Option ℕ) → IsSome b → option_eq eqb a b ≡ true → (k : ℕ) × (a ≡ Some k) × (b ≡ Some k)
 both (Some j) (Some k) h e = (k, ap Some (eqb-true j k e), refl)
@@ -36,7 +35,7 @@ both None (Some k) h e = absurd (false≢true e)
 both a None h e = absurd (false≢true h)
 
 -- so where it is clamped alike, the figure of each line stays
-pub figure_kept : (s t : Shares) → 2 ≤ s.floors → s.floors ≤ t.floors
+pub figure_kept : (s t : Shares) → 2 ≤ s.carried.floors → s.carried.floors ≤ t.carried.floors
     → IsSome t.clamped → option_eq eqb s.clamped t.clamped ≡ true → figure_by s ≡ figure_by t
 unfolding line_figure
 figure_kept s t two more some alike =

@@ -1,7 +1,7 @@
 -- The figure at the lowest floor is what asking there gives, and that of all lines of a reached column.
 -- Assumes nothing.
 use Rattle.std.proofs.Common.{◌≡◌, refl, sym, ◌∙◌, ap, true, List, [], ◌∷◌, append-nil, ◌≤◌, eqb, eq-eqb}
-use mathlib.Core.Bool.{or-true}
+use Rattle.std.proofs.Math.Bool.{or-true}
 use Rattle.lists.specs.Lists.{none, keep, some, total}
 use Rattle.refusal.specs.Said.{gives}
 use Rattle.column.specs.declared.Line.{Line}

@@ -2,8 +2,8 @@
 -- Assumes nothing.
 use Rattle.std.proofs.Common.{◌≡◌, refl, sym, ◌∙◌, arith, ℕ, ◌+◌, ◌≤◌, ◌<◌, Bool, true, false, cond, eqb, List, [], ◌∷◌, ◌++◌, length, get_or, set, replicate, length-set, ◌||◌, add_comm, get_or-set_same, get_or-set_other, eqb-true}
 use mathlib.Core.List.Permᴰ
-use lib.ListN.{get_or-replicate, length-replicate}
-use borrow.Author.Tests.{eqb-false}
+use Rattle.std.proofs.lemmas.Bool.{eqb-false}
+use Rattle.std.proofs.lemmas.List.{get_or-replicate, length-replicate}
 use Rattle.lists.specs.Lists.{some}
 use Rattle.lists.specs.theorems.Orders.{Permuted}
 use Rattle.lists.proofs.Tests.{cases}

@@ -1,7 +1,7 @@
 -- The lines of a reached column are in floor order: entering refuses a line above the last one.
 -- Assumes nothing.
 use Rattle.std.proofs.Common.{◌≡◌, refl, List, [], ◌∷◌, ◌++◌, ℕ, ◌+◌, ◌≤◌, le_trans, arith, length}
-use mathlib.Core.Path.{subst⁻¹}
+use Rattle.std.proofs.Math.Path.{subst⁻¹}
 use Rattle.lists.specs.Lists.{All, none, more}
 use Rattle.lists.proofs.Lists.{all_first, all_rest, all_back, all_front, all_more, all_so}
 use Rattle.column.specs.declared.Line.{Line}

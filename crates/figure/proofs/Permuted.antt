@@ -1,7 +1,7 @@
 -- Nothing that holds at a floor looks at the order of the lines.
 -- Assumes nothing.
 use Rattle.std.proofs.Common.{◌≡◌, sym, ap, Bool, cond, ◌||◌, List, ℕ, ◌+◌, arith, eqb, ne_eqb}
-use native.Mathlib.Decide.{ℕ_discrete}
+use Rattle.std.proofs.Math.Decide.{ℕ_discrete}
 use Rattle.lists.specs.Lists.{some}
 use Rattle.lists.specs.theorems.Orders.{Permuted}
 use Rattle.lists.proofs.Permuted.{permuted_same, some_permuted, total_permuted, keep_permuted}

@@ -1,7 +1,7 @@
 -- Going down the floors of a column: what is carried at the next floor, and what holds there in the table.
 -- Assumes nothing.
 use Rattle.std.proofs.Common.{◌≡◌, refl, sym, ◌∙◌, ap, arith, ℕ, zero, suc, ◌+◌, ◌-◌, ◌≤◌, ◌<◌, true, false, eqb, List, [], ◌∷◌, ◌++◌, Option, Some, map, Bool, add-one, length, take, drop, get_or, length-append, append_assoc, append-nil, add-zero, eqb-true}
-use borrow.Author.Tests.{eqb-false}
+use Rattle.std.proofs.lemmas.Bool.{eqb-false}
 use Rattle.std.specs.List.{IsChunkByPrefix}
 use Rattle.std.proofs.lemmas.List.{map-append, take-append-drop, drop-drop, get_or-drop, get_or_default, get_or_append_left, get_or-append-add}
 use Rattle.std.proofs.Math.Seq.{length-take-le, take-append_seam, drop-append_seam}
@@ -142,7 +142,7 @@ module _ {m : Member} {ns : List ℕ} {d : Descent} {run : List ℕ} (h : Descen
   lower : d.floor < line.floor
   lower = each_of {P = Below d.floor} run (all_front (map unpacked run) (map unpacked r.rest) (rw (r.is, map-append unpacked run r.rest) at h.below)) 0 0 r.some
 
-  floors : floors_of (map unpacked (take (d.lines + length run) ns)) ≡ d.shares.floors + 1
+  floors : floors_of (map unpacked (take (d.lines + length run) ns)) ≡ d.shares.carried.floors + 1
   floors = rw (both, h.shares.0) (floors_with front run r.some (all_so {P = DownTo d.floor} {Q = Other line.floor} (λ l q e. omega (arith, lower)) h.above) r.same)
 
   -- their formula lines' area is that above and that of the new ones
@@ -150,7 +150,7 @@ module _ {m : Member} {ns : List ℕ} {d : Descent} {run : List ℕ} (h : Descen
   run_areas = rw (run_front h.few r, h.area) (sum_by-append (λ k. formula_area (unpacked k)) (take d.lines ns) run)
 
   pub next_of : (n : Descent) → n.lines ≡ d.lines + length run → n.floor ≡ line.floor → n.area.0 ≡ d.area.0 + areas run
-      → SharesOf (d.shares.floors + 1) (influence_from m n.area.0) n.shares
+      → SharesOf (d.shares.carried.floors + 1) (influence_from m n.area.0) n.shares
       → n.figure ≡ figures n.shares (take (d.lines + length run) ns) → NextOf m ns d run n
   unfolding influence_of
   next_of n lines floor area shares figure =
@@ -187,7 +187,7 @@ module _ (c : Column) {ns : List ℕ} (seen : map unpacked ns ≡ lines_of c) wh
 
     -- the lines before the place are those carried, so what holds of them is what asking at the floor gives
     working_here : has_floor d.floor (lines_of c) ≡ true
-        → working_said (asked c d.floor) ≡ Some (record { floors = d.shares.floors; influence = d.shares.influence; figure = d.figure })
+        → working_said (asked c d.floor) ≡ Some (record { floors = d.shares.carried.floors; influence = d.shares.carried.influence; figure = d.figure })
     unfolding asked_of working_of working_said figure_of
     working_here has =
         rw (has, split, carried_front d.floor h.above h.below, h.figure, figures_total d.shares (take d.lines ns), h.shares.0, h.shares.1)

@@ -55,7 +55,7 @@ pub fn asked_at(column: ColumnRef<'_>, floor: u64) -> Result<Working, Refusal>
     let figure = sums::figure_of(carried, shares);
     Ok(Working {
         floors,
-        influence: shares.influence,
+        influence: shares.carried.influence,
         figure,
     })
 }

@@ -29,12 +29,12 @@ struct Descent {
 // above, only the new ones are summed; a root is taken to differ, for X may have grown.
 fn figure_with(carried: &[u64], new: &[u64], above: Descent, here: Shares) -> u64
     requires lines { Lined carried.now × Lined new.now × (take above.lines carried.now ++ new.now ≡ carried.now) }
-    requires shares { above.shares.floors ≤ here.floors }
+    requires shares { above.shares.carried.floors ≤ here.carried.floors }
     requires figure { above.figure ≡ figures above.shares (take above.lines carried.now) }
     ensures { result ≡ figures here carried.now }
 {
     let before = above.shares;
-    if 2 <= before.floors && here.clamped.is_some() && before.clamped == here.clamped {
+    if 2 <= before.carried.floors && here.clamped.is_some() && before.clamped == here.clamped {
         return above.figure + sums::figure_of(new, here);
     }
     sums::figure_of(carried, here)
@@ -48,7 +48,7 @@ fn next_floor(lines: &[u64], member: Member, new: &[u64], above: Descent) -> Des
     let end = above.lines + new.len();
     let sum = above.area.0 + sums::area_of(new).0;
     let area = TributaryArea(sum);
-    let here = rates::shares_at(member, above.shares.floors + 1, area);
+    let here = rates::shares_at(member, above.shares.carried.floors + 1, area);
     Descent {
         lines: end,
         floor: floor_of(new[0]),
@@ -64,8 +64,8 @@ fn put_working(table: &mut Table, here: Descent)
     ensures { table.new ≡ working_put table.old here }
 {
     table[here.floor as usize - 1] = Some(Working {
-        floors: here.shares.floors,
-        influence: here.shares.influence,
+        floors: here.shares.carried.floors,
+        influence: here.shares.carried.influence,
         figure: here.figure,
     });
 }
@@ -73,8 +73,8 @@ fn put_working(table: &mut Table, here: Descent)
 // Puts what holds at every floor from 1 to 64; none at a floor without lines. Gives the figure at
 // the lowest floor, where all lines are carried.
 pub fn work_out_all(column: ColumnRef<'_>, table: &mut Table) -> u64
-    ensures table_after { table.new ≡ workings_of (column_seen column.entry) lowest_floor }
-    ensures value { result ≡ lowest_figure column.entry.member (lines_of (column_seen column.entry)) }
+    ensures workings { table.new ≡ workings_of (column_seen column.entry) lowest_floor }
+    ensures lowest { result ≡ lowest_figure column.entry.member (lines_of (column_seen column.entry)) }
 {
     *table = [None; FLOORS];
     let lines = lines::lines_of(column);

@@ -55,8 +55,8 @@ pub fn ask(column: Column, floor: u64) -> Result<Working, Refusal>
 // n, X and the figure at every floor from 1 to 64; none at a floor that no accepted line has. Gives the figure
 // at the lowest floor, 0 without lines.
 pub fn work_out(column: ColumnRef<'_>, table: &mut Table) -> u64
-    ensures table_after { table.new ≡ workings_of (column_seen column.entry) lowest_floor }
-    ensures value { result ≡ lowest_figure column.entry.member (lines_of (column_seen column.entry)) }
+    ensures workings { table.new ≡ workings_of (column_seen column.entry) lowest_floor }
+    ensures lowest { result ≡ lowest_figure column.entry.member (lines_of (column_seen column.entry)) }
 {
     descent::work_out_all(column, table)
 }

@@ -92,8 +92,7 @@ pub fn shares_at(member: Member, floors: u64, area: TributaryArea) -> Shares
     let influence = influence_of(member, area);
     let carried = Carried { floors, influence };
     Shares {
-        floors: floors,
-        influence: influence,
+        carried,
         clamped: carried.clamped_twentieths(),
         formula: formula_rate(carried),
         other: reduction::heavy_twentieths(floors) * TWENTIETH,
@@ -107,11 +106,7 @@ fn searched_load(load: u64, shares: Shares) -> u64
     requires { (1 ≤ load) × (load ≤ 5000) }
     ensures { result ≡ formula_load shares load }
 {
-    let carried = Carried {
-        floors: shares.floors,
-        influence: shares.influence,
-    };
-    carried.reduced_load(load, 1).unwrap()
+    shares.carried.reduced_load(load, 1).unwrap()
 }
 
 // R of a formula line.
@@ -131,7 +126,7 @@ fn formula_load(load: u64, shares: Shares) -> u64
 // `times` of a line that the formula is not for: class 3 has the whole load.
 fn other_times(number: u64, shares: Shares) -> u64
     requires { InLimits (unpacked number) }
-    ensures { result ≡ (twentieths_rate (other_twentieths (unpacked number).class shares.floors)).times }
+    ensures { result ≡ (twentieths_rate (other_twentieths (unpacked number).class shares.carried.floors)).times }
 {
     if column::key_of(number) < ASSEMBLY_FIRST {
         return shares.other;

@@ -1,8 +1,8 @@
 -- Every row of the table of figures holds: one computed test over the table, and one law that turns it into what the rows say.
 -- Assumes nothing.
 use Rattle.std.proofs.Common.{◌≡◌, refl, ◌∙◌, ap, Bool, true, false, not, ◌&&◌, List, [], ◌∷◌, ℕ, eqb, eqb-true}
-use mathlib.Core.Bool.{and-eq-true_iff, false≢true}
-use borrow.Author.Tests.{not-true}
+use Rattle.std.proofs.Math.Bool.{and-eq-true_iff}
+use Rattle.std.proofs.lemmas.Bool.{false≢true, not-true}
 use Rattle.refusal.specs.Said.{Said, gives, refused}
 use Rattle.reduction.specs.declared.InfluenceArea.{InfluenceArea}
 use Rattle.reduction.specs.declared.share.Share.TheVariants.{Root}

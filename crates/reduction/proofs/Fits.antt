@@ -1,7 +1,7 @@
 -- The share of every line fits a machine word, and the laws of the reduced load under that.
 -- Assumes nothing.
 use Rattle.std.proofs.Common.{◌≡◌, sym, ◌∙◌, subst, true, false, ℕ, ◌*◌, ◌-◌, ◌≤◌, ◌<◌, mul-le-mul_right, arith, eqb, leb-true, leb-false, le-leb, eqb-true}
-use mathlib.Core.Bool.{and-eq-true_iff}
+use Rattle.std.proofs.Math.Bool.{and-eq-true_iff}
 use Rattle.reduction.specs.declared.InfluenceArea.{InfluenceArea}
 use Rattle.reduction.specs.declared.share.Share.{Share}
 use Rattle.reduction.specs.declared.share.Share.TheVariants.{Twentieths, Root}

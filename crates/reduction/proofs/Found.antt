@@ -1,8 +1,8 @@
 -- What going down from above finds: the scale, and the reduced load above the last number that does not reach.
 -- Assumes nothing.
 use Rattle.std.proofs.Common.{◌≡◌, sym, ◌∙◌, ap, true, false, ℕ, ◌+◌, ◌≤◌, ◌<◌, le_refl, le_antisymm, lt_of_not-le, arith, leb-true, le-leb}
-use mathlib.Core.Bool.{false≢true}
-use native.Mathlib.Decide.{dec_le}
+use Rattle.std.proofs.Math.Decide.{dec_le}
+use Rattle.std.proofs.lemmas.Bool.{false≢true}
 use Rattle.std.specs.Prelude.{Option, None, Some, MatchOption}
 use Rattle.std.specs.Option.{unwrap_or}
 use Rattle.reduction.specs.declared.InfluenceArea.{InfluenceArea}

@@ -1,8 +1,9 @@
 -- Laws of the reduced load: it reaches, nothing below it does, and it is at most the load.
 -- Assumes nothing.
 use Rattle.std.proofs.Common.{◌≡◌, refl, sym, ◌∙◌, Bool, true, false, ◌&&◌, ◌||◌, ℕ, ◌*◌, ◌-◌, ◌≤◌, ◌<◌, mul-le-mul_left, mul-le-mul_right, zero-add, le_refl, le_trans, lt_of_not-le, arith, leb-true, le-leb}
-use mathlib.Core.Bool.{and-eq-true_iff, false≢true}
-use native.Mathlib.Decide.{dec_le}
+use Rattle.std.proofs.Math.Bool.{and-eq-true_iff}
+use Rattle.std.proofs.Math.Decide.{dec_le}
+use Rattle.std.proofs.lemmas.Bool.{false≢true}
 use Rattle.refusal.specs.Said.{gives}
 use Rattle.reduction.specs.declared.InfluenceArea.{InfluenceArea}
 use Rattle.reduction.specs.declared.share.Share.{Share}

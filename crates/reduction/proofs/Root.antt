@@ -1,9 +1,9 @@
 -- The root 1/4 + 45.7/√X against so many twentieths, told by squares.
 -- Assumes nothing.
 use Rattle.std.proofs.Common.{◌≡◌, sym, ◌∙◌, ap, true, false, ⊎_elim, ℕ, ◌+◌, ◌*◌, ◌-◌, ◌≤◌, ◌<◌, mul_assoc, mul_comm, add-mul, zero-mul, mul-zero, mul-le-mul_left, mul-le-mul_right, le_trans, le_of_lt, lt_of_not-le, eq-zero-or-pos, arith, leb, leb-true, leb-false, le-leb}
-use mathlib.Core.Bool.{and-eq-true_iff}
-use native.Mathlib.Nat.{le_of_mul-le-mul_left}
-use native.Mathlib.Decide.{dec_le}
+use Rattle.std.proofs.Math.Bool.{and-eq-true_iff}
+use Rattle.std.proofs.Math.Decide.{dec_le}
+use Rattle.std.proofs.Math.Nat.{le_of_mul-le-mul_left}
 use Rattle.lists.proofs.Tests.{same_test}
 use Rattle.reduction.specs.declared.InfluenceArea.{InfluenceArea}
 use Rattle.reduction.specs.declared.share.Share.TheVariants.{Twentieths, Root}

@@ -2,11 +2,10 @@
 -- Assumes nothing.
 use Rattle.std.proofs.Common.{◌≡◌, refl, sym, ◌∙◌, ap, Bool, true, ℕ, zero, suc, ◌+◌, ◌*◌, ◌-◌, ◌/◌, ◌^◌, ◌≤◌, ◌<◌, mul_assoc, mul_comm, add-mul, mul-zero, mul-le-mul, mul-le-mul_left, mul-le-mul_right, le_refl, le_trans, le_of_lt, not-le_of_lt, lt_of_not-le, le_antisymm, add-one, arith, ltb, leb-true, le-leb, ltb-true, ltb-false, lt-ltb}
 use Rattle.std.specs.Prelude.{None, Some, IsSome}
-use mathlib.Core.Path.{subst⁻¹}
-use mathlib.Core.Bool.{and-eq-true_iff}
-use native.Mathlib.Nat.{le_of_mul-le-mul_left}
-use native.Mathlib.Nat.{lt-mul-div-succ}
-use native.Mathlib.Decide.{dec_le}
+use Rattle.std.proofs.Math.Bool.{and-eq-true_iff}
+use Rattle.std.proofs.Math.Decide.{dec_le}
+use Rattle.std.proofs.Math.Nat.{le_of_mul-le-mul_left, lt-mul-div-succ}
+use Rattle.std.proofs.Math.Path.{subst⁻¹}
 use Rattle.reduction.specs.declared.InfluenceArea.{InfluenceArea}
 use Rattle.reduction.specs.declared.share.Share.{Share}
 use Rattle.reduction.specs.declared.share.Share.TheVariants.{Twentieths, Root}

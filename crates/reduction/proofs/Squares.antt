@@ -1,8 +1,8 @@
 -- Squares keep the order of whole numbers, so a comparison with a square root is one of squares.
 -- Assumes nothing.
 use Rattle.std.proofs.Common.{◌≡◌, ◌∙◌, ap, sym, ℕ, ◌+◌, ◌*◌, ◌-◌, ◌≤◌, ◌<◌, mul_assoc, mul_comm, mul-add, mul-le-mul, mul-le-mul_left, mul-le-mul_right, mul-lt-mul_of_pos_right, lt_of_le_of_lt, lt_of_not-le, not-le_of_lt, le_of_lt, arith}
-use native.Mathlib.Nat.{mul-mul-mul_comm}
-use native.Mathlib.Decide.{dec_le}
+use Rattle.std.proofs.Math.Decide.{dec_le}
+use Rattle.std.proofs.Math.Nat.{mul-mul-mul_comm}
 use Rattle.reduction.specs.Least.{sq}
 
 pub sq_le : {a b : ℕ} → a ≤ b → sq a ≤ sq b

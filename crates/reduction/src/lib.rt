@@ -48,7 +48,7 @@ impl Carried {
     // The root part of 4 × share in units of 2⁻¹⁹, rounded down, for all formula lines, where their
     // share is not clamped. By it most reduced loads need no search.
     pub fn root_scale(self) -> Option<u64>
-        ensures value { result ≡ scale_of self.floors self.influence }
+        ensures scale { result ≡ scale_of self.floors self.influence }
         ensures small { IfSome result (λ scale. scale ≤ 1572863) }
     {
         let formula = self.formula_share();

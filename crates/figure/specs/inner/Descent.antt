@@ -23,7 +23,7 @@ pub record RunAt (ns : List ℕ) (first : ℕ) (run : List ℕ) : Type 0 where
 -- n, X and the figure put at a floor's place
 abbrev pub working_put : List (Option Working) → Descent → List (Option Working)
 working_put table d =
-    set table (d.floor - 1) (Some (record { floors = d.shares.floors; influence = d.shares.influence; figure = d.figure }))
+    set table (d.floor - 1) (Some (record { floors = d.shares.carried.floors; influence = d.shares.carried.influence; figure = d.figure }))
 
 -- in a column with its lines in order, those before a place are those carried at a floor, and what holds of them
 pub record Descended (m : Member) (ns : List ℕ) (d : Descent) : Type 0 where
@@ -34,7 +34,7 @@ pub record Descended (m : Member) (ns : List ℕ) (d : Descent) : Type 0 where
   pub floor_most : d.floor ≤ lowest_floor
   pub above : All (DownTo d.floor) (map unpacked (take d.lines ns))
   pub below : All (Below d.floor) (map unpacked (drop d.lines ns))
-  pub floors_most : d.shares.floors ≤ d.lines
+  pub floors_most : d.shares.carried.floors ≤ d.lines
   pub shares : SharesOf (floors_of (map unpacked (take d.lines ns))) (influence_of m (map unpacked (take d.lines ns))) d.shares
   pub area : d.area.0 ≡ areas (take d.lines ns)
   pub figure : d.figure ≡ figures d.shares (take d.lines ns)

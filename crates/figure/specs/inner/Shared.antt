@@ -10,11 +10,11 @@ use Rattle.figure.specs.Figure.{line_figure}
 
 -- the shares are those at n floors and the influence area x
 abbrev pub SharesOf : ℕ → InfluenceArea → Shares → Type 0
-SharesOf n x s = (s.floors ≡ n) × (s.influence ≡ x)
+SharesOf n x s = (s.carried.floors ≡ n) × (s.carried.influence ≡ x)
 
 -- R of a formula line, which has class 1, and R × area of a line
 abbrev pub formula_load : Shares → ℕ → ℕ
-formula_load s load = reduced (share_of load 1 s.floors s.influence) load
+formula_load s load = reduced (share_of load 1 s.carried.floors s.carried.influence) load
 
 abbrev pub figure_by : Shares → Line → ℕ
-figure_by s = line_figure s.floors s.influence
+figure_by s = line_figure s.carried.floors s.carried.influence

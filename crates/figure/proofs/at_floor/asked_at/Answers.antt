@@ -41,7 +41,7 @@ figure_of-figure-requires c = (front (goal.at.figure_of-figure-requires c).After
 -- what was counted and summed of the lines carried is what asking gives
 summed : (m : Member) (ls front : List Line) (f : ℕ) (s : Shares) {n area figure : ℕ} → has_floor f ls ≡ true → carried f ls ≡ front
     → n ≡ floors_of front → area ≡ area_of (formula_lines front) → SharesOf n (influence_from m area) s → figure ≡ total (figure_by s) front
-    → gives (record { floors = n; influence = s.influence; figure = figure }) ≡ asked_of m ls f
+    → gives (record { floors = n; influence = s.carried.influence; figure = figure }) ≡ asked_of m ls f
 unfolding asked_of working_of figure_of influence_of
 summed m ls front f s has front-is floors area shares figure = rw (has, front-is, figure) (rw (shares.0, shares.1, area, floors))
 

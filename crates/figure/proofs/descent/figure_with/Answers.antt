@@ -14,7 +14,7 @@ use Rattle.figure.proofs.descent.figure_with.Goals as goal
 use Rattle.figure.proofs.descent.figure_with.Goals.{After-figure_of}
 
 -- the lines above and the new ones together
-together : (s t : Shares) (front new carried : List ℕ) {figure more : ℕ} → 2 ≤ s.floors → s.floors ≤ t.floors → IsSome t.clamped → option_eq eqb s.clamped t.clamped ≡ true
+together : (s t : Shares) (front new carried : List ℕ) {figure more : ℕ} → 2 ≤ s.carried.floors → s.carried.floors ≤ t.carried.floors → IsSome t.clamped → option_eq eqb s.clamped t.clamped ≡ true
     → front ++ new ≡ carried → figure ≡ figures s front → more ≡ figures t new → figure + more ≡ figures t carried
 together s t front new carried two more some e is above below =
     let same : figures s front ≡ figures t front = ap (λ (f : Line → ℕ). sum_by (λ n. f (unpacked n)) front) (figure_kept s t two more some e) in

@@ -47,12 +47,12 @@ loop-new-preserved c =
     let r = new (goal.at.loop-new-preserved c).In-Some in
     (n.descended, rw n.lines (sym (rest_after c.lines_of-lines.result.now l.here.lines c.in-Some.new.now _ (sym l.invariant.1 ∙ c.in-Some.ensures.steps.0))), c.put_working.ensures ∙ next_put (column_seen c.args.column) c.lines_of-lines.ensures.0 l.invariant.0 r n l.invariant.2)
 
-pub returns-clause-table_after : goal.returns-clause-table_after
-returns-clause-table_after c =
+pub returns-clause-workings : goal.returns-clause-workings
+returns-clause-workings c =
     let l = c.loop-new in
     l.invariant.2 ∙ all_passed (column_seen c.args.column) c.lines_of-lines.ensures.0 l.invariant.0 (none_left c.loop-new.new-iterator.rest.now (sym l.invariant.1) c.in-None.ensures.steps.0)
 
-pub returns-clause-value : goal.returns-clause-value
-returns-clause-value c =
+pub returns-clause-lowest : goal.returns-clause-lowest
+returns-clause-lowest c =
     let l = c.loop-new in
     all_summed (column_seen c.args.column) c.lines_of-lines.ensures.0 l.invariant.0 (seen_reached c.args.column) (none_left c.loop-new.new-iterator.rest.now (sym l.invariant.1) c.in-None.ensures.steps.0)

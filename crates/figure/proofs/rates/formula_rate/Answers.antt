@@ -16,11 +16,11 @@ pub twentieths_rate-requires : goal.twentieths_rate-requires
 twentieths_rate-requires c = omega (arith, clamped_most _ _ (clamped (goal.at.twentieths_rate-requires c).In-Some))
 
 pub unwrap-scale-requires : goal.unwrap-scale-requires
-unwrap-scale-requires c = rw c.root_scale.ensures.value (root_where _ _ (sym c.clamped_twentieths.ensures ∙ c.in_default.is))
+unwrap-scale-requires c = rw c.root_scale.ensures.scale (root_where _ _ (sym c.clamped_twentieths.ensures ∙ c.in_default.is))
 
 pub returns-in-Some : goal.returns-in-Some
 returns-in-Some c = c.twentieths_rate.ensures ∙ rate_clamped _ _ (clamped (goal.at.returns-in-Some c).In-Some)
 
 pub returns : goal.returns
 unfolding root_rate
-returns c = rate_root _ _ (sym c.root_scale.ensures.value ∙ c.unwrap-scale.ensures)
+returns c = rate_root _ _ (sym c.root_scale.ensures.scale ∙ c.unwrap-scale.ensures)

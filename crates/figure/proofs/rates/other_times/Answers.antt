@@ -7,9 +7,9 @@ use Rattle.figure.proofs.rates.other_times.Goals as goal
 pub returns-then-key_of-lt-ASSEMBLY_FIRST : goal.returns-then-key_of-lt-ASSEMBLY_FIRST
 returns-then-key_of-lt-ASSEMBLY_FIRST c =
     c.args.shares.other_is
-    ∙ ap (λ (k : ℕ). (twentieths_rate k).times) (sym (key_other c.args.number c.requires c.args.shares.floors (omega (arith, c.key_of.ensures))))
+    ∙ ap (λ (k : ℕ). (twentieths_rate k).times) (sym (key_other c.args.number c.requires c.args.shares.carried.floors (omega (arith, c.key_of.ensures))))
 
 pub returns : goal.returns
 unfolding twentieths_rate
 returns c =
-    rw (key_assembly c.args.number c.requires c.args.shares.floors (omega (arith, c.key_of.ensures)))
+    rw (key_assembly c.args.number c.requires c.args.shares.carried.floors (omega (arith, c.key_of.ensures)))

@@ -9,8 +9,8 @@ use Rattle.figure.specs.inner.Shared.{formula_load}
 use Rattle.figure.proofs.rates.searched_load.Goals as goal
 use Rattle.figure.proofs.rates.searched_load.Goals.{Start}
 
-known : (s : Start) → reduced_of s.args.load 1 s.args.shares.floors s.args.shares.influence ≡ gives (formula_load s.args.shares s.args.load)
-known s = reduced_known s.args.load 1 s.args.shares.floors s.args.shares.influence refl (in_limits 1 50000 s.args.load s.requires.0 (omega arith))
+known : (s : Start) → reduced_of s.args.load 1 s.args.shares.carried.floors s.args.shares.carried.influence ≡ gives (formula_load s.args.shares s.args.load)
+known s = reduced_known s.args.load 1 s.args.shares.carried.floors s.args.shares.carried.influence refl (in_limits 1 50000 s.args.load s.requires.0 (omega arith))
 
 pub unwrap-requires : goal.unwrap-requires
 unwrap-requires c = gives_ok _ (c.reduced_load.ensures ∙ known (goal.at.unwrap-requires c).Start)

@@ -1,6 +1,6 @@
 -- `reduction::Carried::formula_share` meets its contract: each way out is in its range of n and X. Assumes nothing.
 use Rattle.std.proofs.Common.{◌∙◌, true, false, arith, le-leb}
-use borrow.Author.Tests.{lt-leb}
+use Rattle.std.proofs.lemmas.Bool.{lt-leb}
 use Rattle.reduction.proofs.Root.{half_first, two_fifths_first}
 use Rattle.reduction.proofs.Shares.{formula_capped, formula_past, least_one, least_more}
 use Rattle.reduction.proofs.Carried.formula_share.Goals as goal

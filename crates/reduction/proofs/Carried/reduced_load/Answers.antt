@@ -1,7 +1,7 @@
 -- `reduction::Carried::reduced_load` meets its contract: a formula line with a load is within its limits. Assumes nothing.
 use Rattle.std.proofs.Common.{◌≡◌, sym, ◌∙◌, true, arith}
-use mathlib.Core.Path.{subst⁻¹}
-use mathlib.Core.Bool.{false≢true}
+use Rattle.std.proofs.Math.Path.{subst⁻¹}
+use Rattle.std.proofs.lemmas.Bool.{false≢true}
 use Rattle.refusal.specs.Said.{said}
 use Rattle.reduction.specs.declared.share.Share.{Share}
 use Rattle.member.specs.Line.{is_formula}

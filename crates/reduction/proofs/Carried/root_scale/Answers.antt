@@ -19,11 +19,11 @@ invariant_of-rounded_down c =
 
 pub returns-in-Twentieths : goal.returns-in-Twentieths
 unfolding scale_of share_scale
-returns-in-Twentieths c = record { value = rw (sym c.formula_share-formula.ensures ∙ c.in-Twentieths.is); small = tt }
+returns-in-Twentieths c = record { scale = rw (sym c.formula_share-formula.ensures ∙ c.in-Twentieths.is); small = tt }
 
 pub returns-in-Root : goal.returns-in-Root
 unfolding scale_of share_scale
 returns-in-Root c =
     let share = root (goal.at.returns-in-Root c).In-Root in
     let fits = fit_root (formula_fits _ _) share in
-    record { value = rw (share, c.rounded_down.ensures); small = omega (arith, c.rounded_down.ensures, scale_most c.in-Root.x fits.0) }
+    record { scale = rw (share, c.rounded_down.ensures); small = omega (arith, c.rounded_down.ensures, scale_most c.in-Root.x fits.0) }

@@ -12,13 +12,13 @@ use Rattle.report.proofs.takedown.put_all.Goals.{After-live_effect}
 -- the figure at the lowest floor in newtons is the live effect
 live_known : (c : After-live_effect) → c.live_effect.result ≡ live_of (column_seen c.args.column)
 unfolding live_of
-live_known c = c.live_effect.ensures.0 ∙ ap (λ (n : ℕ). (n + 99) / 100) c.work_out-lowest.ensures.value
+live_known c = c.live_effect.ensures.0 ∙ ap (λ (n : ℕ). (n + 99) / 100) c.work_out-lowest.ensures.lowest
 
 pub live_effect-requires : goal.live_effect-requires
-live_effect-requires c = rw c.work_out-lowest.ensures.value (lowest_most (seen_reached c.args.column))
+live_effect-requires c = rw c.work_out-lowest.ensures.lowest (lowest_most (seen_reached c.args.column))
 
 pub returns-clause-put : goal.returns-clause-put
 unfolding takedown_of effects_of
 returns-clause-put c =
-    let put = rw (c.work_out-lowest.ensures.table_after, table_lines_lem (column_seen c.args.column)) at c.put_floors.ensures.put in
+    let put = rw (c.work_out-lowest.ensures.workings, table_lines_lem (column_seen c.args.column)) at c.put_floors.ensures.put in
     puts_then _ _ _ _ put (rw (live_known (goal.at.returns-clause-put c).After-live_effect) at c.put_governing.ensures.put)

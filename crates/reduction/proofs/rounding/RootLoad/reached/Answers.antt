@@ -1,6 +1,6 @@
 -- `reduction::rounding::RootLoad::reached` meets its contract: its tests are the definition's. Assumes nothing.
 use Rattle.std.proofs.Common.{le-leb}
-use borrow.Author.Tests.{lt-leb}
+use Rattle.std.proofs.lemmas.Bool.{lt-leb}
 use Rattle.reduction.specs.Reduced.{reaches}
 use Rattle.reduction.proofs.rounding.RootLoad.reached.Goals as goal
 
