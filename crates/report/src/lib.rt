@@ -38,11 +38,10 @@ pub fn report(text: &[u8], out: &mut [u8; ROOM]) -> Reported
             length: 0,
         };
     }
-    let column = reading.sheet.column.lend();
     Reported {
         number: reading.number,
         line: reading.line,
-        length: takedown::put_takedown(out, column, reading.sheet.effects),
+        length: takedown::put_takedown(out, reading.sheet.lend()),
     }
 }
 

@@ -1,20 +1,22 @@
 // The takedown of a sheet that keeps the limits: its floors, and then the rows that govern.
-ghost use Rattle.std.specs.Prelude.{◌≡◌, ◌+◌, ◌/◌, ◌≤◌};
+ghost use Rattle.std.specs.Prelude.{◌≡◌};
 ghost use Rattle.text.specs.Put.{out, puts};
 ghost use Rattle.newtons.specs.Effect.{limit};
 ghost use Rattle.effects.specs.Check.{newtons_of};
+ghost use Rattle.effects.specs.inner.Sized.{Seven};
 ghost use Rattle.combination.specs.Combine.{governing};
 ghost use Rattle.column.specs.Line.{lowest_floor};
+ghost use Rattle.column.specs.Column.{lines_of};
 ghost use Rattle.column.specs.Seen.{column_seen};
-ghost use Rattle.sheet.specs.Keeps.{EffectsWithin};
-ghost use Rattle.report.specs.Report.{effects_with, governing_lines, takedown_of};
-ghost use Rattle.report.specs.inner.Table.{sheet_from, line_of, table_lines};
+ghost use Rattle.figure.specs.Lowest.{lowest_figure};
+ghost use Rattle.sheet.specs.Seen.{sheet_seen};
+ghost use Rattle.report.specs.Report.{effects_of, governing_lines, takedown_of};
+ghost use Rattle.report.specs.inner.Table.{line_of, table_lines};
 
 use crate::lines;
-use column::ColumnRef;
 use effects::Newtons;
 use figure::{FLOORS, Table, Working};
-use sheet_lines::EFFECTS;
+use sheet::SheetRef;
 use text::Output;
 
 // Puts the line of a floor, and nothing where no line has that floor.
@@ -37,23 +39,16 @@ fn put_floors(output: &mut Output, table: &Table)
     }
 }
 
-// A figure in whole newtons, rounded up.
-fn live_effect(figure: u64) -> u64
-    requires { figure ≤ 2560000000000 }
-    ensures { (result ≡ (figure + 99) / 100) × (result ≤ limit) }
+// The seven effects of a sheet in whole newtons: its six, and live, which is the figure at the lowest floor, rounded up.
+fn newtons_with(sheet: SheetRef<'_>, lowest: u64) -> Newtons
+    requires { lowest ≡ lowest_figure sheet.column.member (lines_of (column_seen sheet.column)) }
+    ensures { result ≡ effects_of (sheet_seen sheet.entry) }
 {
-    (figure + 99) / 100
-}
-
-// The seven effects of a sheet in whole newtons, the live effect among them.
-fn newtons_with(effects: [i64; EFFECTS], live: u64) -> Newtons
-    requires { EffectsWithin effects × (live ≤ limit) }
-    ensures { result ≡ effects_with effects live }
-{
-    let [dead, roof, snow, rain, wind, quake] = effects;
+    let [dead, roof, snow, rain, wind, quake] = sheet.effects;
+    let live = lowest.div_ceil(100) as i64;
     Newtons {
         dead,
-        live: live as i64,
+        live,
         roof,
         snow,
         rain,
@@ -64,36 +59,34 @@ fn newtons_with(effects: [i64; EFFECTS], live: u64) -> Newtons
 
 // Puts the lines of the greatest and the least sum. The effects are within the limit, so none is
 // refused.
-fn put_governing(output: &mut Output, effects: [i64; EFFECTS], live: u64)
-    requires { EffectsWithin effects × (live ≤ limit) }
+fn put_governing(output: &mut Output, newtons: Newtons)
+    requires { Seven limit (newtons_of newtons) }
     ensures same_buffer { output.new.buffer.ghost_name ≡ output.old.buffer.ghost_name }
-    ensures put { out output.new.buffer.now output.new.at ≡ puts output.old.buffer.now output.old.at (governing_lines (governing (newtons_of (effects_with effects live)))) }
+    ensures put { out output.new.buffer.now output.new.at ≡ puts output.old.buffer.now output.old.at (governing_lines (governing (newtons_of newtons))) }
 {
-    let Ok(governing) = combination::govern(newtons_with(effects, live)) else {
+    let Ok(governing) = combination::govern(newtons) else {
         unreachable!()
     };
     lines::put_governing_line(output, b"max=", governing.greatest);
     lines::put_governing_line(output, b"min=", governing.least);
 }
 
-// Puts all that is printed of the sheet of a column and six effects.
-fn put_all(output: &mut Output, column: ColumnRef<'_>, effects: [i64; EFFECTS])
-    requires { EffectsWithin effects }
+// Puts all that is printed of a sheet.
+fn put_all(output: &mut Output, sheet: SheetRef<'_>)
     ensures same_buffer { output.new.buffer.ghost_name ≡ output.old.buffer.ghost_name }
-    ensures put { out output.new.buffer.now output.new.at ≡ puts output.old.buffer.now output.old.at (takedown_of (sheet_from (column_seen column.entry) effects)) }
+    ensures put { out output.new.buffer.now output.new.at ≡ puts output.old.buffer.now output.old.at (takedown_of (sheet_seen sheet.entry)) }
 {
     let mut table = [None; FLOORS];
-    let lowest = figure::work_out(column, &mut table);
+    let lowest = figure::work_out(sheet.column, &mut table);
     put_floors(output, &table);
-    put_governing(output, effects, live_effect(lowest));
+    put_governing(output, newtons_with(sheet, lowest));
 }
 
 // The same at the front of a buffer.
-pub fn put_takedown(to: &mut [u8], column: ColumnRef<'_>, effects: [i64; EFFECTS]) -> usize
-    requires { EffectsWithin effects }
-    ensures { out to.new result ≡ puts to.old 0 (takedown_of (sheet_from (column_seen column.entry) effects)) }
+pub fn put_takedown(to: &mut [u8], sheet: SheetRef<'_>) -> usize
+    ensures { out to.new result ≡ puts to.old 0 (takedown_of (sheet_seen sheet.entry)) }
 {
     let mut output = Output { buffer: to, at: 0 };
-    put_all(&mut output, column, effects);
+    put_all(&mut output, sheet);
     output.at
 }

@@ -5,8 +5,7 @@
 
 ghost use Rattle.io.specs.Counts.{IsPrefixLen};
 
-use column::ColumnRef;
-use sheet_lines::EFFECTS;
+use sheet::SheetRef;
 use sheet_writer::SheetDoubles;
 use std::io;
 use std::io::{BufWriter, Read, Write};
@@ -14,50 +13,34 @@ use std::io::{BufWriter, Read, Write};
 // More than the stored sheets take.
 const ROOM: usize = 1048576;
 
-// An effect of a sheet as a double; none that is read is beyond the limit, and the test says so to the check.
-fn double_of(effect: i64) -> f64 {
-    if !newtons::is_within(effect) {
-        return 0.0;
-    }
-    effect as f64
-}
-
 // The six effects of a sheet as they are handed to the writer.
-fn doubles_of(effects: [i64; EFFECTS]) -> SheetDoubles {
-    let [dead, roof, snow, rain, wind, quake] = effects.map(double_of);
+#[tactic(auto, using(crate::proofs::Doubles::exact))]
+fn doubles_of(sheet: SheetRef<'_>) -> SheetDoubles {
+    let [dead, roof, snow, rain, wind, quake] = sheet.effects;
     SheetDoubles {
-        dead,
-        roof,
-        snow,
-        rain,
-        wind,
-        quake,
+        dead: dead as f64,
+        roof: roof as f64,
+        snow: snow as f64,
+        rain: rain as f64,
+        wind: wind as f64,
+        quake: quake as f64,
     }
 }
 
 // Writes a sheet that was read, and gives how many bytes that is; one that was read is never refused, and 0 would show it.
-fn put_back(
-    column: ColumnRef<'_>,
-    effects: [i64; EFFECTS],
-    back: &mut [u8; sheet_writer::ROOM],
-) -> usize
+fn put_back(sheet: SheetRef<'_>, back: &mut [u8; sheet_writer::ROOM]) -> usize
     ensures { IsPrefixLen result back.new }
 {
-    match sheet_writer::write(column, doubles_of(effects), back) {
+    match sheet_writer::write(sheet.column, doubles_of(sheet), back) {
         Ok(length) => length,
         Err(_) => 0,
     }
 }
 
 // Prints how many bytes a sheet that was read has when it is written back, and whether they are its text.
-fn write_back<W: Write>(
-    out: &mut W,
-    text: &[u8],
-    column: ColumnRef<'_>,
-    effects: [i64; EFFECTS],
-) -> io::Result<()> {
+fn write_back<W: Write>(out: &mut W, text: &[u8], sheet: SheetRef<'_>) -> io::Result<()> {
     let mut back = [0u8; sheet_writer::ROOM];
-    let length = put_back(column, effects, &mut back);
+    let length = put_back(sheet, &mut back);
     let word = if text == &back[..length] {
         "same"
     } else {
@@ -79,26 +62,15 @@ fn answer<W: Write>(out: &mut W, text: &[u8]) -> io::Result<()> {
     out.write_all(sheet::offending(text))?;
     writeln!(out)?;
     if reading.number == 0 {
-        return write_back(
-            out,
-            text,
-            reading.sheet.column.lend(),
-            reading.sheet.effects,
-        );
+        return write_back(out, text, reading.sheet.lend());
     }
     Ok(())
 }
 
-// The number that a line `sheet` gives; leading digits past a million are dropped, since no text is so long.
+// The number that a line `sheet` gives.
 fn size_from(line: &[u8]) -> Option<usize> {
-    let mut size = 0;
-    for byte in line.iter().skip(6) {
-        if !byte.is_ascii_digit() {
-            return None;
-        }
-        size = size % 1_000_000 * 10 + (*byte - b'0') as usize;
-    }
-    Some(size)
+    let digits = line.strip_prefix(b"sheet ")?;
+    str::from_utf8(digits).ok()?.parse().ok()
 }
 
 // Answers for every sheet; a sheet that is cut short is not read, and one whose line says no number has no bytes.

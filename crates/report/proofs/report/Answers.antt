@@ -24,11 +24,8 @@ returns-then-is_refused c =
 keeps : (c : Else-is_refused) → Keeps c.read-reading.result.sheet
 keeps c = c.read-reading.ensures.1 (omega (arith, c.if-is_refused.false))
 
-pub lend-column-requires : goal.lend-column-requires
-lend-column-requires c = (keeps (goal.at.lend-column-requires c).Else-is_refused).column
-
-pub put_takedown-requires : goal.put_takedown-requires
-put_takedown-requires c = (keeps (goal.at.put_takedown-requires c).Else-is_refused).effects
+pub lend-requires : goal.lend-requires
+lend-requires c = keeps (goal.at.lend-requires c).Else-is_refused
 
 -- the take-down is put, and finds room
 whole : (c : After-put_takedown)
@@ -38,7 +35,7 @@ whole c =
     let sheet = c.read-reading.result.sheet in
     let size : 4096 ≤ length c.args.out.now = search rules in
     let most = takedown_most sheet (keeps (goal.at.After-put_takedown c).Else-is_refused) in
-    let put = rw c.lend-column.ensures at c.put_takedown.ensures in
+    let put = rw c.lend.ensures at c.put_takedown.ensures in
     puts_front (takedown_of sheet) put (omega (arith, most))
 
 pub returns : goal.returns

@@ -1,14 +1,8 @@
 -- What is printed of the floors, by a table of what holds at each; a law says it too.
 -- Assumes nothing.
-use Rattle.std.specs.Prelude.{List, [], ◌++◌, ℕ, zero, suc, ℤ, get_or, Option, Some, None}
-use Rattle.column.specs.declared.Column.{Column}
+use Rattle.std.specs.Prelude.{List, [], ◌++◌, ℕ, zero, suc, get_or, Option, Some, None}
 use Rattle.figure.specs.declared.Working.{Working}
-use Rattle.sheet.specs.declared.Sheet.{Sheet}
 use Rattle.report.specs.Report.{floor_line}
-
--- the sheet that a column and six effects make
-abbrev pub sheet_from : Column → List ℤ → Sheet
-sheet_from c es = record { column = c; effects = es }
 
 -- the line of a floor; none where nothing holds there
 unfoldable pub line_of : ℕ → Option Working → List (List ℕ)

@@ -1,5 +1,5 @@
--- `trial_sheet::answer` meets its contract: the column of a sheet that is read is reached. Assumes nothing.
+-- `trial_sheet::answer` meets its contract: a sheet that is read keeps the limits. Assumes nothing.
 use Rattle.trial_sheet.proofs.answer.Goals as goal
 
 pub lend-requires : goal.lend-requires
-lend-requires g c = (c.read-reading.ensures.1 c.if-reading-eq0.true).column
+lend-requires g c = c.read-reading.ensures.1 c.if-reading-eq0.true

@@ -1,23 +1,18 @@
 -- `report::takedown::put_governing` meets its contract: whole effects within the limit have governing rows. Assumes nothing.
-use Rattle.std.proofs.Common.{◌≡◌, ◌∙◌, ap, ℤ}
+use Rattle.std.proofs.Common.{◌≡◌, ◌∙◌}
 use Rattle.text.proofs.Puts.{puts_then}
 use Rattle.refusal.specs.Said.{gives, told}
 use Rattle.refusal.proofs.Said.{told_gives_it, told_is_given}
-use Rattle.effects.specs.declared.PerLoad.{PerLoad}
 use Rattle.effects.specs.Check.{newtons_of}
-use Rattle.combination.specs.Combine.{governing, governed}
+use Rattle.combination.specs.Combine.{governing}
 use Rattle.combination.proofs.Answers.{newtons_governed}
-use Rattle.report.specs.Report.{effects_with, governing_lines}
-use Rattle.report.proofs.Live.{seven_with}
+use Rattle.report.specs.Report.{governing_lines}
 use Rattle.report.proofs.takedown.put_governing.Goals as goal
 use Rattle.report.proofs.takedown.put_governing.Goals.{After-govern}
 
 -- the rows that govern the sheet's effects
-answered : (c : After-govern)
-    → told c.govern.result ≡ gives (governing (newtons_of (effects_with c.args.effects c.args.live)))
-answered c =
-    c.govern.ensures.0
-    ∙ (ap (λ (n : PerLoad ℤ). governed (newtons_of n)) c.newtons_with.ensures ∙ newtons_governed (effects_with c.args.effects c.args.live) (seven_with c.args.effects c.args.live c.requires.0 c.requires.1))
+answered : (c : After-govern) → told c.govern.result ≡ gives (governing (newtons_of c.args.newtons))
+answered c = c.govern.ensures.0 ∙ newtons_governed c.args.newtons c.requires
 
 pub unreachable-requires : goal.unreachable-requires
 unreachable-requires c = c.in_default.not-Ok _ (told_is_given _ (answered (goal.at.unreachable-requires c).After-govern))

@@ -1,0 +1,16 @@
+-- A double keeps each effect of a sheet that is lent.
+-- Assumes nothing.
+use Rattle.std.proofs.Common.{ℕ, arith, pos, get_or, w64, to_z, of_z}
+use lib.Dec.{T}
+use lib.Ieee.{binary64}
+use Rattle.std.specs.Float.Ieee.{in_float}
+use Rattle.newtons.proofs.Values.{in_float_lem}
+use Rattle.report.proofs.Live.{effect_kept}
+use Rattle.sheet.specs.declared.lent.SheetRef.{SheetRef}
+use Rattle.sheet.proofs.Kept.{each_within}
+use Rattle.sheet.proofs.Seen.{within_anyhow}
+
+pub exact : (s : SheetRef) (k : ℕ) → T (in_float binary64 (to_z w64 (of_z w64 (get_or s.effects k (pos 0)))))
+exact s k =
+    let w = each_within (within_anyhow s.within) k in
+    rw (effect_kept _ w) (in_float_lem _ (omega (arith, w)))
