@@ -6,6 +6,8 @@ ghost use Rattle.io.specs.Counts.{IsPrefixLen};
 ghost use Rattle.text.specs.Put.{fronted};
 ghost use Rattle.report.specs.Report.{put_of, reported_of, refusal_text, report_of};
 
+use text::Output;
+
 mod lines;
 mod takedown;
 
@@ -24,6 +26,7 @@ pub struct Reported {
 
 // Puts the take-down of a text at the front of a buffer. Where the sheet is refused nothing is put: the
 // buffer is as it was.
+#[tactic(auto, unfolding(text::specs::Put::put))]
 pub fn report(text: &[u8], out: &mut [u8; ROOM]) -> Reported
     ensures value { result ≡ reported_of text.now }
     ensures out_after { out.new ≡ fronted (put_of text.now) out.old }
@@ -38,21 +41,26 @@ pub fn report(text: &[u8], out: &mut [u8; ROOM]) -> Reported
             length: 0,
         };
     }
+    let mut output = Output { buffer: out, at: 0 };
+    takedown::put_takedown(&mut output, reading.sheet.lend());
     Reported {
         number: reading.number,
         line: reading.line,
-        length: takedown::put_takedown(out, reading.sheet.lend()),
+        length: output.at,
     }
 }
 
 // Puts the line that takedown prints for a refused sheet, of which only the number and the line K are
 // known here, at the front of a buffer; gives how many bytes that is. It takes any number, as C may hand one over.
+#[tactic(auto, unfolding(text::specs::Put::put))]
 pub fn put_refusal(number: u64, line: u64, out: &mut [u8; ROOM]) -> usize
     ensures value { result ≡ length (refusal_text number line) }
     ensures out_after { out.new ≡ fronted (refusal_text number line) out.old }
     ensures prefix_len { IsPrefixLen result out.new }
 {
-    lines::put_refusal(out, number, line)
+    let mut output = Output { buffer: out, at: 0 };
+    lines::put_refusal_line(&mut output, number, line);
+    output.at
 }
 
 // Puts all that takedown prints for a text at the front of a buffer, its take-down or the line of its

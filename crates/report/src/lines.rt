@@ -1,6 +1,6 @@
 // The lines that takedown prints, put into a buffer.
 ghost use Rattle.std.specs.Prelude.{◌≡◌};
-ghost use Rattle.text.specs.Put.{out, puts};
+ghost use Rattle.text.specs.Put.{put};
 ghost use Rattle.report.specs.Report.{floor_line, governing_line, refusal_line};
 
 use combination::GoverningRow;
@@ -8,43 +8,32 @@ use figure::Working;
 use text::Output;
 
 // Puts the line of a floor with this working.
+#[tactic(auto, unfolding(text::specs::Put::field_parts, crate::specs::Report::floor_line))]
 pub fn put_floor_line(output: &mut Output, floor: u64, working: Working)
-    ensures same_buffer { output.new.buffer.ghost_name ≡ output.old.buffer.ghost_name }
-    ensures put { out output.new.buffer.now output.new.at ≡ puts output.old.buffer.now output.old.at (floor_line floor working) }
+    ensures { output.new ≡ put output.old (floor_line floor working) }
 {
-    output.field(b"floor=", floor);
-    output.field(b" floors=", working.floors);
-    output.field(b" influence=", working.influence.0);
-    output.field(b" figure=", working.figure);
-    output.newline();
+    output.line(&[
+        (b"floor=", floor),
+        (b" floors=", working.floors),
+        (b" influence=", working.influence.0),
+        (b" figure=", working.figure),
+    ]);
 }
 
 // Puts the line of a governing sum and its row.
+#[tactic(auto, using(text::proofs::Puts::put_then), unfolding(text::specs::Put::field_parts, crate::specs::Report::governing_line))]
 pub fn put_governing_line(output: &mut Output, key: &[u8], governing: GoverningRow)
-    ensures same_buffer { output.new.buffer.ghost_name ≡ output.old.buffer.ghost_name }
-    ensures put { out output.new.buffer.now output.new.at ≡ puts output.old.buffer.now output.old.at (governing_line key.now governing) }
+    ensures { output.new ≡ put output.old (governing_line key.now governing) }
 {
     output.text(key);
     output.signed(governing.tenths);
-    output.field(b" row=", governing.row);
-    output.newline();
+    output.line(&[(b" row=", governing.row)]);
 }
 
 // Puts the line of a refusal.
-fn put_refusal_line(output: &mut Output, number: u64, line: u64)
-    ensures same_buffer { output.new.buffer.ghost_name ≡ output.old.buffer.ghost_name }
-    ensures put { out output.new.buffer.now output.new.at ≡ puts output.old.buffer.now output.old.at (refusal_line number line) }
+#[tactic(auto, unfolding(text::specs::Put::field_parts, crate::specs::Report::refusal_line))]
+pub fn put_refusal_line(output: &mut Output, number: u64, line: u64)
+    ensures { output.new ≡ put output.old (refusal_line number line) }
 {
-    output.field(b"refused=", number);
-    output.field(b" line=", line);
-    output.newline();
-}
-
-// Puts the line of a refusal at the front of a buffer.
-pub fn put_refusal(to: &mut [u8], number: u64, line: u64) -> usize
-    ensures { out to.new result ≡ puts to.old 0 (refusal_line number line) }
-{
-    let mut output = Output { buffer: to, at: 0 };
-    put_refusal_line(&mut output, number, line);
-    output.at
+    output.line(&[(b"refused=", number), (b" line=", line)]);
 }

@@ -1,6 +1,6 @@
 // The takedown of a sheet that keeps the limits: its floors, and then the rows that govern.
 ghost use Rattle.std.specs.Prelude.{◌≡◌};
-ghost use Rattle.text.specs.Put.{out, puts};
+ghost use Rattle.text.specs.Put.{put};
 ghost use Rattle.newtons.specs.Effect.{limit};
 ghost use Rattle.effects.specs.Check.{newtons_of};
 ghost use Rattle.effects.specs.inner.Sized.{Seven};
@@ -21,8 +21,7 @@ use text::Output;
 
 // Puts the line of a floor, and nothing where no line has that floor.
 fn put_floor(output: &mut Output, floor: u64, working: Option<Working>)
-    ensures same_buffer { output.new.buffer.ghost_name ≡ output.old.buffer.ghost_name }
-    ensures put { out output.new.buffer.now output.new.at ≡ puts output.old.buffer.now output.old.at (line_of floor working) }
+    ensures { output.new ≡ put output.old (line_of floor working) }
 {
     if let Some(working) = working {
         lines::put_floor_line(output, floor, working);
@@ -31,8 +30,7 @@ fn put_floor(output: &mut Output, floor: u64, working: Option<Working>)
 
 // Puts the lines of all floors, top first.
 fn put_floors(output: &mut Output, table: &Table)
-    ensures same_buffer { output.new.buffer.ghost_name ≡ output.old.buffer.ghost_name }
-    ensures put { out output.new.buffer.now output.new.at ≡ puts output.old.buffer.now output.old.at (table_lines table.now lowest_floor) }
+    ensures { output.new ≡ put output.old (table_lines table.now lowest_floor) }
 {
     for (above, working) in table.iter().enumerate() {
         put_floor(output, above as u64 + 1, *working);
@@ -61,8 +59,7 @@ fn newtons_with(sheet: SheetRef<'_>, lowest: u64) -> Newtons
 // refused.
 fn put_governing(output: &mut Output, newtons: Newtons)
     requires { Seven limit (newtons_of newtons) }
-    ensures same_buffer { output.new.buffer.ghost_name ≡ output.old.buffer.ghost_name }
-    ensures put { out output.new.buffer.now output.new.at ≡ puts output.old.buffer.now output.old.at (governing_lines (governing (newtons_of newtons))) }
+    ensures { output.new ≡ put output.old (governing_lines (governing (newtons_of newtons))) }
 {
     let Ok(governing) = combination::govern(newtons) else {
         unreachable!()
@@ -72,21 +69,11 @@ fn put_governing(output: &mut Output, newtons: Newtons)
 }
 
 // Puts all that is printed of a sheet.
-fn put_all(output: &mut Output, sheet: SheetRef<'_>)
-    ensures same_buffer { output.new.buffer.ghost_name ≡ output.old.buffer.ghost_name }
-    ensures put { out output.new.buffer.now output.new.at ≡ puts output.old.buffer.now output.old.at (takedown_of (sheet_seen sheet.entry)) }
+pub fn put_takedown(output: &mut Output, sheet: SheetRef<'_>)
+    ensures { output.new ≡ put output.old (takedown_of (sheet_seen sheet.entry)) }
 {
     let mut table = [None; FLOORS];
     let lowest = figure::work_out(sheet.column, &mut table);
     put_floors(output, &table);
     put_governing(output, newtons_with(sheet, lowest));
-}
-
-// The same at the front of a buffer.
-pub fn put_takedown(to: &mut [u8], sheet: SheetRef<'_>) -> usize
-    ensures { out to.new result ≡ puts to.old 0 (takedown_of (sheet_seen sheet.entry)) }
-{
-    let mut output = Output { buffer: to, at: 0 };
-    put_all(&mut output, sheet);
-    output.at
 }

@@ -4,6 +4,7 @@ use Rattle.std.proofs.Common.{◌≡◌, refl, true, false, List, [], ◌∷◌,
 use Rattle.std.specs.Prelude.{sum_by}
 use Rattle.std.proofs.lemmas.List.Sums.{sum_by-cons}
 use lib.Signed.{lt_z}
+use Rattle.text.specs.Put.{field_parts}
 use Rattle.text.specs.Text.{joined, decimal, signed_decimal}
 use Rattle.text.proofs.Puts.{joined_append, joined_length}
 use Rattle.text.proofs.Decimal.{length_most, length_more, length_some}
@@ -21,7 +22,7 @@ use Rattle.sheet_lines.specs.LineText.{line_numbers}
 use Rattle.sheet.specs.declared.Sheet.{Sheet}
 use Rattle.sheet.specs.Keeps.{Keeps}
 use Rattle.sheet_text.specs.Written.{written}
-use Rattle.sheet_writer.specs.inner.Parts.{field_parts, member_parts, line_parts, floors_parts, effect_parts, effects_parts, sheet_parts}
+use Rattle.sheet_writer.specs.inner.Parts.{member_parts, line_parts, floors_parts, effect_parts, effects_parts, sheet_parts}
 use Rattle.sheet_writer.proofs.Texts.{sheet_text}
 
 -- by the numbers in them: the member's line, a floor line, and the line of an effect

@@ -2,6 +2,7 @@
 -- Assumes nothing.
 use Rattle.std.proofs.Common.{◌≡◌, refl, sym, ◌∙◌, ap, List, [], ◌∷◌, ◌++◌, append-nil, append_assoc, map, ℕ, suc, ◌<◌, arith, ℤ, pos, length, get_or}
 use Rattle.text.specs.Text.{bytes_of, joined, decimal, signed_parts, signed_decimal}
+use Rattle.text.specs.Put.{field_parts}
 use Rattle.text.specs.Lines.{newline, ended, text_of}
 use Rattle.text.proofs.Puts.{joined_append}
 use Rattle.text.proofs.Lines.{text_append}
@@ -13,7 +14,7 @@ use Rattle.sheet_lines.specs.Form.{effect_count, effect_keys}
 use Rattle.sheet_lines.specs.LineText.{fields_text, member_text, floor_text, effect_text}
 use Rattle.sheet.specs.declared.Sheet.{Sheet}
 use Rattle.sheet_text.specs.Written.{effect_lines, lines_in, written}
-use Rattle.sheet_writer.specs.inner.Parts.{field_parts, member_parts, line_parts, floors_parts, effect_parts, effects_parts, sheet_parts}
+use Rattle.sheet_writer.specs.inner.Parts.{member_parts, line_parts, floors_parts, effect_parts, effects_parts, sheet_parts}
 
 -- a line of numbers behind their keys, ended
 fields_text_lem : (keys : List (List ℕ)) (ns : List ℕ) → joined (field_parts keys ns) ≡ ended (fields_text keys ns)

@@ -1,6 +1,6 @@
 // The lines of a sheet, put into a buffer.
 ghost use Rattle.std.specs.Prelude.{◌≡◌, ◌≤◌, length, map, take};
-ghost use Rattle.text.specs.Put.{out, puts};
+ghost use Rattle.text.specs.Put.{out, puts, put};
 ghost use Rattle.column.specs.Line.{most_lines, unpacked};
 ghost use Rattle.column.specs.Seen.{column_seen};
 ghost use Rattle.sheet_lines.specs.Form.{effect_keys};
@@ -12,24 +12,24 @@ use sheet_lines::EFFECTS;
 use text::Output;
 
 // Puts the member's line.
+#[tactic(auto, unfolding(text::specs::Put::field_parts, crate::specs::inner::Parts::member_parts, sheet_lines::specs::Form::member_keys))]
 fn put_member(output: &mut Output, member: Member)
-    ensures same_buffer { output.new.buffer.ghost_name ≡ output.old.buffer.ghost_name }
-    ensures put { out output.new.buffer.now output.new.at ≡ puts output.old.buffer.now output.old.at (member_parts member.code) }
+    ensures { output.new ≡ put output.old (member_parts member.code) }
 {
-    output.field(b"member=", member.code as u64);
-    output.newline();
+    output.line(&[(b"member=", member.code as u64)]);
 }
 
 // Puts a floor line.
+#[tactic(auto, unfolding(text::specs::Put::field_parts, crate::specs::inner::Parts::line_parts, sheet_lines::specs::Form::floor_keys, sheet_lines::specs::LineText::line_numbers))]
 fn put_line(output: &mut Output, line: Line)
-    ensures same_buffer { output.new.buffer.ghost_name ≡ output.old.buffer.ghost_name }
-    ensures put { out output.new.buffer.now output.new.at ≡ puts output.old.buffer.now output.old.at (line_parts line) }
+    ensures { output.new ≡ put output.old (line_parts line) }
 {
-    output.field(b"floor=", line.floor);
-    output.field(b" class=", line.class);
-    output.field(b" load=", line.load);
-    output.field(b" area=", line.area.0);
-    output.newline();
+    output.line(&[
+        (b"floor=", line.floor),
+        (b" class=", line.class),
+        (b" load=", line.load),
+        (b" area=", line.area.0),
+    ]);
 }
 
 // The numbers that hold the lines of a column.
@@ -43,8 +43,7 @@ pub fn held_numbers(column: ColumnRef<'_>) -> &[u64]
 
 // Puts the floor lines that these numbers hold, in order.
 fn put_lines(output: &mut Output, numbers: &[u64])
-    ensures same_buffer { output.new.buffer.ghost_name ≡ output.old.buffer.ghost_name }
-    ensures put { out output.new.buffer.now output.new.at ≡ puts output.old.buffer.now output.old.at (floors_parts (map unpacked numbers.now)) }
+    ensures { output.new ≡ put output.old (floors_parts (map unpacked numbers.now)) }
 {
     for number in numbers {
         put_line(output, column::line_of(*number));
@@ -54,9 +53,9 @@ fn put_lines(output: &mut Output, numbers: &[u64])
 // Puts an effect behind its key, and ends the line. Compiled into its callers, where the keys are known, so that the
 // library copies by memcpy alone.
 #[inline(always)]
+#[tactic(auto, using(text::proofs::Puts::put_then), unfolding(crate::specs::inner::Parts::effect_parts))]
 fn put_effect(output: &mut Output, key: &[u8], newtons: i64)
-    ensures same_buffer { output.new.buffer.ghost_name ≡ output.old.buffer.ghost_name }
-    ensures put { out output.new.buffer.now output.new.at ≡ puts output.old.buffer.now output.old.at (effect_parts key.now newtons) }
+    ensures { output.new ≡ put output.old (effect_parts key.now newtons) }
 {
     output.text(key);
     output.signed(newtons);
@@ -66,8 +65,7 @@ fn put_effect(output: &mut Output, key: &[u8], newtons: i64)
 // Puts the six effects of a sheet.
 fn put_effects(output: &mut Output, effects: [i64; EFFECTS])
     requires { EffectsWithin effects }
-    ensures same_buffer { output.new.buffer.ghost_name ≡ output.old.buffer.ghost_name }
-    ensures put { out output.new.buffer.now output.new.at ≡ puts output.old.buffer.now output.old.at (effects_parts effect_keys effects) }
+    ensures { output.new ≡ put output.old (effects_parts effect_keys effects) }
 {
     let [dead, roof, snow, rain, wind, quake] = effects;
     put_effect(output, b"dead=", dead);
@@ -78,23 +76,15 @@ fn put_effects(output: &mut Output, effects: [i64; EFFECTS])
     put_effect(output, b"quake=", quake);
 }
 
-// Puts the sheet of a column and six effects.
-fn put_all(output: &mut Output, column: ColumnRef<'_>, effects: [i64; EFFECTS])
-    requires { EffectsWithin effects }
-    ensures same_buffer { output.new.buffer.ghost_name ≡ output.old.buffer.ghost_name }
-    ensures put { out output.new.buffer.now output.new.at ≡ puts output.old.buffer.now output.old.at (sheet_parts (sheet_from (column_seen column.entry) effects)) }
-{
-    put_member(output, column.member);
-    put_lines(output, held_numbers(column));
-    put_effects(output, effects);
-}
-
 // Puts the sheet of a column and six effects at the front of a buffer.
+#[tactic(auto, unfolding(text::specs::Put::put))]
 pub fn put_sheet(to: &mut [u8], column: ColumnRef<'_>, effects: [i64; EFFECTS]) -> usize
     requires { EffectsWithin effects }
     ensures { out to.new result ≡ puts to.old 0 (sheet_parts (sheet_from (column_seen column.entry) effects)) }
 {
     let mut output = Output { buffer: to, at: 0 };
-    put_all(&mut output, column, effects);
+    put_member(&mut output, column.member);
+    put_lines(&mut output, held_numbers(column));
+    put_effects(&mut output, effects);
     output.at
 }

@@ -4,13 +4,31 @@ use Rattle.std.proofs.Common.{◌≡◌, refl, sym, ◌∙◌, ap, Bool, true, f
 use lib.Seq.{sets, sets-eq, length-sets}
 use Rattle.io.specs.Counts.{IsPrefixLen}
 use Rattle.text.specs.Text.{joined}
-use Rattle.text.specs.Put.{Out, out, put_one, puts, fronted}
+use Rattle.text.specs.declared.Output.{Output}
+use Rattle.text.specs.Put.{Out, out, put_one, puts, put, fronted}
 
 -- some texts, then others after them
 pub puts_then : {b d : List ℕ} {j k : ℕ} (l : List ℕ) (i : ℕ) (vs ws : List (List ℕ)) → out b j ≡ puts l i vs → out d k ≡ puts b j ws → out d k ≡ puts l i (vs ++ ws)
 unfolding puts
 puts_then l i [] ws p q = q ∙ ap (λ (o : Out). puts o.buffer o.end ws) p
 puts_then l i (v ∷ vs) ws p q = puts_then (put_one l i v).buffer (put_one l i v).end vs ws p q
+
+-- the same of an output
+pub put_then : (o : Output) (vs ws : List (List ℕ)) → put (put o vs) ws ≡ put o (vs ++ ws)
+unfolding put
+put_then o vs ws =
+    ap (λ (p : Out). record { buffer = record o.buffer { now = p.buffer }; at = p.end })
+    (puts_then o.buffer.now o.at vs ws refl refl)
+
+-- what an output that was made over a buffer leaves in it
+pub put_is : {after : Output} (o : Output) (vs : List (List ℕ)) → after ≡ put o vs → out after.buffer.now after.at ≡ puts o.buffer.now o.at vs
+unfolding put
+put_is o vs e = ap (λ (x : Output). out x.buffer.now x.at) e
+
+-- an output keeps its buffer
+pub put_same : {after : Output} (o : Output) (vs : List (List ℕ)) → after ≡ put o vs → after.buffer.ghost_name ≡ o.buffer.ghost_name
+unfolding put
+put_same o vs e = ap (λ (x : Output). x.buffer.ghost_name) e
 
 -- the buffer keeps its length
 pub puts_length : {after : List ℕ} {end : ℕ} (l : List ℕ) (i : ℕ) (vs : List (List ℕ)) → out after end ≡ puts l i vs → length after ≡ length l

@@ -1,10 +1,10 @@
 // Text: words, numbers and newlines put into a lent buffer, and the lines of a text.
 #![tactic(auto)]
 
-ghost use Rattle.std.specs.Prelude.{◌≡◌, [], ◌∷◌};
+ghost use Rattle.std.specs.Prelude.{◌≡◌, [], ◌∷◌, map};
 ghost use Rattle.text.specs.Text.{decimal, signed_parts};
 ghost use Rattle.text.specs.Lines.{newline};
-ghost use Rattle.text.specs.Put.{out, puts};
+ghost use Rattle.text.specs.Put.{field_parts, put};
 
 pub mod scan;
 
@@ -20,8 +20,7 @@ impl<'a> Output<'a> {
     // Puts a text and goes on behind it; without room for all of it the buffer and the index stay as
     // they were.
     pub fn text(&mut self, text: &[u8])
-        ensures same_buffer { self.new.buffer.ghost_name ≡ self.old.buffer.ghost_name }
-        ensures put { out self.new.buffer.now self.new.at ≡ puts self.old.buffer.now self.old.at (text.now ∷ []) }
+        ensures { self.new ≡ put self.old (text.now ∷ []) }
     {
         if self.at > self.buffer.len() {
             return;
@@ -37,17 +36,16 @@ impl<'a> Output<'a> {
     // Puts the decimal digits of a number, as `text` does.
     #[tactic(auto, using(crate::proofs::Digits::written_decimal))]
     pub fn decimal(&mut self, n: u64)
-        ensures same_buffer { self.new.buffer.ghost_name ≡ self.old.buffer.ghost_name }
-        ensures put { out self.new.buffer.now self.new.at ≡ puts self.old.buffer.now self.old.at (decimal n ∷ []) }
+        ensures { self.new ≡ put self.old (decimal n ∷ []) }
     {
         let mut digits = itoa::Buffer::new();
         self.text(digits.format(n).as_bytes());
     }
 
     // Puts a key and the number after it.
+    #[tactic(auto, using(crate::proofs::Puts::put_then))]
     pub fn field(&mut self, key: &[u8], n: u64)
-        ensures same_buffer { self.new.buffer.ghost_name ≡ self.old.buffer.ghost_name }
-        ensures put { out self.new.buffer.now self.new.at ≡ puts self.old.buffer.now self.old.at (key.now ∷ decimal n ∷ []) }
+        ensures { self.new ≡ put self.old (key.now ∷ decimal n ∷ []) }
     {
         self.text(key);
         self.decimal(n);
@@ -55,17 +53,25 @@ impl<'a> Output<'a> {
 
     // Puts the newline that ends a line.
     pub fn newline(&mut self)
-        ensures same_buffer { self.new.buffer.ghost_name ≡ self.old.buffer.ghost_name }
-        ensures put { out self.new.buffer.now self.new.at ≡ puts self.old.buffer.now self.old.at ((newline ∷ []) ∷ []) }
+        ensures { self.new ≡ put self.old ((newline ∷ []) ∷ []) }
     {
         self.text(b"\n");
+    }
+
+    // Puts a line: each key and the number after it, and then the newline.
+    pub fn line(&mut self, fields: &[(&[u8], u64)])
+        ensures { self.new ≡ put self.old (field_parts (map (λ field. field.0.now) fields.now) (map (λ field. field.1) fields.now)) }
+    {
+        for (key, n) in fields {
+            self.field(key, *n);
+        }
+        self.newline();
     }
 
     // Puts a number, with a minus sign where it is below 0. The sign is a text of its own, which finds room
     // or not; the library's text of a number would have both in one.
     pub fn signed(&mut self, n: i64)
-        ensures same_buffer { self.new.buffer.ghost_name ≡ self.old.buffer.ghost_name }
-        ensures put { out self.new.buffer.now self.new.at ≡ puts self.old.buffer.now self.old.at (signed_parts n) }
+        ensures { self.new ≡ put self.old (signed_parts n) }
     {
         let below = n < 0;
         if below {

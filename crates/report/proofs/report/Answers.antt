@@ -2,7 +2,7 @@
 use Rattle.std.proofs.Common.{refl, ◌∙◌, ap, List, ℕ, ◌≤◌, arith, length, rules}
 use Rattle.text.specs.Text.{joined}
 use Rattle.text.specs.Put.{fronted}
-use Rattle.text.proofs.Puts.{Front, puts_front}
+use Rattle.text.proofs.Puts.{Front, puts_front, put_is}
 use Rattle.sheet.specs.Keeps.{Keeps}
 use Rattle.report.specs.Report.{takedown_of}
 use Rattle.report.proofs.Lengths.{takedown_most}
@@ -30,13 +30,13 @@ lend-requires c = keeps (goal.at.lend-requires c).Else-is_refused
 -- the take-down is put, and finds room
 whole : (c : After-put_takedown)
     → let t = joined (takedown_of c.read-reading.result.sheet) in
-    Front c.args.out.now t c.put_takedown.new.to c.put_takedown.result
+    Front c.args.out.now t c.put_takedown.new.output.buffer.now c.put_takedown.new.output.at
 whole c =
     let sheet = c.read-reading.result.sheet in
     let size : 4096 ≤ length c.args.out.now = search rules in
     let most = takedown_most sheet (keeps (goal.at.After-put_takedown c).Else-is_refused) in
     let put = rw c.lend.ensures at c.put_takedown.ensures in
-    puts_front (takedown_of sheet) put (omega (arith, most))
+    puts_front (takedown_of sheet) (put_is _ _ put) (omega (arith, most))
 
 pub returns : goal.returns
 returns c =

@@ -1,7 +1,8 @@
 -- The text of a sheet as the parts that are put one after another, and each of its effects.
 -- Assumes nothing.
 use Rattle.std.specs.Prelude.{List, [], ◌∷◌, ◌++◌, ℕ, ℤ, Float, Option, Some}
-use Rattle.text.specs.Text.{decimal, signed_parts}
+use Rattle.text.specs.Text.{signed_parts}
+use Rattle.text.specs.Put.{field_parts}
 use Rattle.text.specs.Lines.{newline}
 use Rattle.refusal.specs.Said.{Told, gives, refused}
 use Rattle.column.specs.declared.Line.{Line}
@@ -20,12 +21,6 @@ sheet_from c zs = record { column = c; effects = zs }
 unfoldable pub placed_at : ℕ → Told Float ℤ → Told (Option Placed) ℤ
 placed_at place (gives z) = gives z
 placed_at place (refused n x) = refused n (Some (record { place = place; double = x }))
-
--- numbers behind their keys, and the newline
-unfoldable pub field_parts : List (List ℕ) → List ℕ → List (List ℕ)
-field_parts (key ∷ keys) (n ∷ ns) = key ∷ decimal n ∷ field_parts keys ns
-field_parts (key ∷ keys) [] = (newline ∷ []) ∷ []
-field_parts [] ns = (newline ∷ []) ∷ []
 
 -- the member's line, a floor line and all of them
 unfoldable pub member_parts : ℕ → List (List ℕ)

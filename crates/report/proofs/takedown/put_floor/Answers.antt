@@ -1,7 +1,7 @@
 -- `report::takedown::put_floor` meets its contract: nothing is put where no line has the floor. Assumes nothing.
 use Rattle.std.proofs.Common.{◌≡◌, refl, [], ℕ}
 use Rattle.std.specs.Prelude.{Option, Some, None}
-use Rattle.text.specs.Put.{puts}
+use Rattle.text.specs.Put.{puts, put}
 use Rattle.figure.specs.declared.Working.{Working}
 use Rattle.report.specs.inner.Table.{line_of}
 use Rattle.report.proofs.takedown.put_floor.Goals as goal
@@ -11,10 +11,10 @@ unfolding line_of
 no_line f (Some w) h = absurd (h w refl)
 no_line f None h = refl
 
-pub returns-in-Some-clause-put : goal.returns-in-Some-clause-put
+pub returns-in-Some : goal.returns-in-Some
 unfolding line_of
-returns-in-Some-clause-put c = rw c.in-Some.is c.put_floor_line.ensures.put
+returns-in-Some c = rw c.in-Some.is c.put_floor_line.ensures
 
-pub returns-in_default-clause-put : goal.returns-in_default-clause-put
-unfolding puts
-returns-in_default-clause-put c = rw (no_line c.args.floor c.args.working c.in_default.not-Some)
+pub returns-in_default : goal.returns-in_default
+unfolding puts put
+returns-in_default c = rw (no_line c.args.floor c.args.working c.in_default.not-Some)

@@ -1,6 +1,6 @@
 -- `report::takedown::put_governing` meets its contract: whole effects within the limit have governing rows. Assumes nothing.
 use Rattle.std.proofs.Common.{◌≡◌, ◌∙◌}
-use Rattle.text.proofs.Puts.{puts_then}
+use Rattle.text.proofs.Puts.{put_then}
 use Rattle.refusal.specs.Said.{gives, told}
 use Rattle.refusal.proofs.Said.{told_gives_it, told_is_given}
 use Rattle.effects.specs.Check.{newtons_of}
@@ -17,7 +17,7 @@ answered c = c.govern.ensures.0 ∙ newtons_governed c.args.newtons c.requires
 pub unreachable-requires : goal.unreachable-requires
 unreachable-requires c = c.in_default.not-Ok _ (told_is_given _ (answered (goal.at.unreachable-requires c).After-govern))
 
-pub returns-clause-put : goal.returns-clause-put
+pub returns : goal.returns
 unfolding governing_lines
-returns-clause-put c =
-    rw (← told_gives_it c.in-Ok.is (answered (goal.at.returns-clause-put c).After-govern)) (puts_then _ _ _ _ c.put_governing_line.ensures.put c.put_governing_line-2.ensures.put)
+returns c =
+    rw (← told_gives_it c.in-Ok.is (answered (goal.at.returns c).After-govern), c.put_governing_line-2.ensures, c.put_governing_line.ensures) (put_then _ _ _)

@@ -1,7 +1,7 @@
 -- `text::Output::text` meets its contract: what is copied into the rest of the buffer stands in the buffer from the index on. Assumes nothing.
 use Rattle.std.proofs.Common.{◌≡◌, sym, ◌∙◌, ap, List, ◌++◌, append_assoc, ℕ, ◌+◌, ◌-◌, ◌≤◌, arith, length, take, drop, drop-drop, le-leb}
 use lib.Seq.{sets, sets-eq}
-use Rattle.text.specs.Put.{out, put_one, puts}
+use Rattle.text.specs.Put.{put_one, puts, put}
 use borrow.Author.Tests.{lt-leb}
 use Rattle.text.proofs.Output.text.Goals as goal
 
@@ -12,21 +12,21 @@ copied l text at room =
     let size : at + length text - at ≡ length text = omega arith in
     rw (size, drop-drop (length text) at l) (sym (append_assoc (take at l) text (drop (at + length text) l)) ∙ sym (sets-eq text l at room))
 
-pub returns-then-self-clause-put : goal.returns-then-self-clause-put
-unfolding put_one puts
-returns-then-self-clause-put c =
+pub returns-then-self : goal.returns-then-self
+unfolding put_one puts put
+returns-then-self c =
     let no = lt-leb (c.args.self.now.at + length c.args.text.now) (length c.args.self.now.buffer.now) (omega arith) in
     rw no
 
-pub returns-then-text-self-clause-put : goal.returns-then-text-self-clause-put
-unfolding put_one puts
-returns-then-text-self-clause-put c =
+pub returns-then-text-self : goal.returns-then-text-self
+unfolding put_one puts put
+returns-then-text-self c =
     let no = lt-leb (c.args.self.now.at + length c.args.text.now) (length c.args.self.now.buffer.now) (omega arith) in
     rw no
 
-pub returns-clause-put : goal.returns-clause-put
-unfolding put_one puts
-returns-clause-put c =
+pub returns : goal.returns
+unfolding put_one puts put
+returns c =
     let room : c.args.self.now.at + length c.args.text.now ≤ length c.args.self.now.buffer.now = omega arith in
     rw (le-leb _ _ room, c.copy_from_slice.ensures.after)
-    (ap (λ (b : List ℕ). out b (c.args.self.now.at + length c.args.text.now)) (copied c.args.self.now.buffer.now c.args.text.now c.args.self.now.at room))
+    (ap (λ (b : List ℕ). record { buffer = record c.args.self.now.buffer { now = b }; at = c.args.self.now.at + length c.args.text.now }) (copied c.args.self.now.buffer.now c.args.text.now c.args.self.now.at room))
