@@ -1,6 +1,6 @@
 -- A column that is lent in its parts is a reached one, and a reached one may be lent.
 -- Assumes nothing.
-use Rattle.std.proofs.Common.{◌≡◌, refl, sym, ◌∙◌, ap, List, [], ◌∷◌, ◌++◌}
+use Rattle.std.proofs.Common.{◌≡◌, refl, sym, ◌∙◌, ap, List, [], ◌∷◌, ◌++◌, ◌≤◌, arith, length, take, length-take-le}
 use Rattle.std.proofs.Math.Logic.{∥∥₁_elim}
 use Rattle.std.proofs.Props.{props}
 use Rattle.column.specs.declared.Line.{Line}
@@ -10,9 +10,10 @@ use Rattle.column.specs.declared.lent.ColumnRef.{ColumnRef}
 use Rattle.column.specs.Accepted.{entry_number, joined, accepted_from, accepted}
 use Rattle.column.specs.Column.{lines_of, column_of, opened_of, Reached, after}
 use Rattle.column.specs.Seen.{column_seen}
+use Rattle.column.specs.inner.Sound.{Held}
 use Rattle.column.specs.theorems.InTurn.{AcceptedInTurn, none, more}
 use Rattle.column.proofs.InTurn.{reached_in_turn}
-use Rattle.column.proofs.Reach.{after_opened, reached_column, reached_is}
+use Rattle.column.proofs.Reach.{after_opened, reached_column, reached_is, sound}
 
 accepted_append : (m : Member) (ls es : List Line) (l : Line) → accepted_from m ls (es ++ (l ∷ [])) ≡ joined m (accepted_from m ls es) l
 unfolding accepted_from
@@ -65,3 +66,16 @@ reached_anyhow {c} r =
 -- a column that is lent is a reached one
 pub seen_reached : (c : ColumnRef) → Reached (column_seen c)
 seen_reached c = reached_anyhow c.reached
+
+-- so its places hold as many lines as it counts, each within its limits
+pub seen_held : (c : ColumnRef) → Held c.held.now c.count
+seen_held c = (sound (seen_reached c)).held
+
+pub seen_few : (c : ColumnRef) → c.count ≤ 256
+seen_few c = (seen_held c).few
+
+-- there are no more of the numbers that hold them
+pub numbers_few : (c : ColumnRef) → length (take c.count c.held.now) ≤ 256
+numbers_few c =
+    let h = seen_held c in
+    omega (arith, length-take-le c.count c.held.now (omega (arith, h.few, h.size)), h.few)
