@@ -6,7 +6,7 @@ pub mod Reach
 pub mod InTurn
 pub mod Seen
 pub mod InPlace
-pub mod Entries
+pub mod EntriesFrom
 pub mod Entering
 pub mod EntryNumbers
 pub mod Pasting

@@ -13,7 +13,7 @@ use Rattle.column.specs.theorems.Entering.{NoneRefused, none, more, Stops}
 use Rattle.column.specs.theorems.Pasting.{AllKept, KeptBefore, pasted_entries, EndsAsEntering, KeptAreHeld}
 use Rattle.column.proofs.Reach.{after_append, entered_count, entered_stays, reached_entered}
 use Rattle.column.proofs.Entering.{every_list}
-use Rattle.column.proofs.Entries.{entry_at, entries_first}
+use Rattle.column.proofs.EntriesFrom.{entry_at, entries_first}
 
 -- ---- one line, and none
 

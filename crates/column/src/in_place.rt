@@ -6,8 +6,7 @@ ghost use Rattle.column.specs.Accepted.{last_floor};
 ghost use Rattle.column.specs.Column.{lines_of, column_from, entered_of, Reached, count_after, entered_outcome};
 ghost use Rattle.column.specs.Pasted.{pasted_of, paste_outcome};
 
-use crate::{Line, Member, Places, conditions, places};
-use member::TributaryArea;
+use crate::{Entries, Line, Member, Places, conditions, places};
 use refusal::Refusal;
 
 // What pasting gives: how many lines of the list were kept, and why the next one was not.
@@ -55,14 +54,7 @@ pub fn paste(held: &mut Places, member: Member, count: u16, lines: &[u64]) -> Pa
 {
     let mut filled = count;
     let mut last = places::last_floor_of(held, count);
-    let mut rest = lines;
-    while let [floor, class, load, area, after @ ..] = rest {
-        let line = Line {
-            floor: *floor,
-            class: *class,
-            load: *load,
-            area: TributaryArea(*area),
-        };
+    for line in Entries(lines) {
         let entered = enter_below(held, member, filled, last, line);
         match entered {
             Ok(next) => filled = next,
@@ -74,7 +66,6 @@ pub fn paste(held: &mut Places, member: Member, count: u16, lines: &[u64]) -> Pa
             }
         }
         last = line.floor;
-        rest = after;
     }
     PastedLines {
         kept: filled - count,

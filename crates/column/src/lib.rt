@@ -7,12 +7,14 @@ ghost use Rattle.column.specs.Line.{entries_of, unpacked, key_of};
 ghost use Rattle.column.specs.Column.{column_of, member_of, opened_of, entered_of, Reached, opened_as};
 ghost use Rattle.column.specs.Pasted.{pasted_of, paste_outcome};
 
+pub use entries::Entries;
 use in_place::PastedLines;
 pub use lent::ColumnRef;
 use member::{TributaryArea, limits};
 use refusal::Refusal;
 
 mod conditions;
+mod entries;
 pub mod in_place;
 mod lent;
 mod places;

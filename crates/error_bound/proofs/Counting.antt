@@ -1,6 +1,6 @@
 -- What is told of the refused entries of a list: one after another as the definition tells it of the whole.
 -- Assumes nothing.
-use Rattle.std.proofs.Common.{◌≡◌, refl, sym, ◌∙◌, ap, cond, List, [], ◌∷◌, ℕ, ◌+◌, ◌-◌, ◌≤◌, ◌<◌, add-zero, zero-add, arith, eqb, length, take, drop}
+use Rattle.std.proofs.Common.{◌≡◌, refl, sym, ◌∙◌, ap, cond, List, [], ◌∷◌, ℕ, ◌+◌, ◌≤◌, add-zero, zero-add, arith, eqb}
 use Rattle.std.specs.Prelude.{Option, Some, None, unwrap_or}
 use Rattle.refusal.specs.declared.Refusal.{Refusal}
 use Rattle.refusal.specs.declared.Refused.{Refused}
@@ -11,9 +11,7 @@ use Rattle.column.specs.declared.Member.{Member}
 use Rattle.column.specs.declared.Column.{Column}
 use Rattle.column.specs.Column.{Outcome}
 use Rattle.column.specs.Accepted.{entry_number, joined}
-use Rattle.column.specs.Line.{entries_of}
 use Rattle.column.specs.Column.{column_of, opened_of, entered_of, after}
-use Rattle.column.proofs.Entries.{entry_at, entries_first, entries_few}
 use Rattle.column.specs.theorems.InTurn.{Holdable}
 use Rattle.column.proofs.Reach.{holdable_none, entered_column, joined_holdable, opened_column}
 use Rattle.error_bound.specs.Entries.{RefusedEntries, refusals_told, numbers_from, refused_count, first_number, first_place, refusals_of, refusals_after}
@@ -92,19 +90,12 @@ module _ (m : Member) where
   unfolding refusals_after refusals_of refused_count first_number first_place
   refusals_refused es n h e = rw (← e, not_zero h)
 
--- one entry more of a list of numbers, which is counted and noted
-pub next_entry : (c d : Column) (ns : List ℕ) (n place : ℕ) (p : RefusedEntries) {q : RefusedEntries} → 4 ≤ length ns → record { number = n; column = d } ≡ entered_of c (entry_at ns 0) → q ≡ noted_of p n place
-    → let es = entries_of (take (length ns - 4) (drop 4 ns)) in
-    (after d es ≡ after c (entries_of ns)) × (noted_all q (place + 1) (numbers_on d es) ≡ noted_all p place (numbers_on c (entries_of ns)))
+-- one entry more is counted and noted, and the others follow
+pub next_entry : (c d : Column) (l : Line) (es : List Line) (n place : ℕ) (p : RefusedEntries) {q : RefusedEntries} → record { number = n; column = d } ≡ entered_of c l → q ≡ noted_of p n place
+    → (after d es ≡ after c (l ∷ es)) × (noted_all q (place + 1) (numbers_on d es) ≡ noted_all p place (numbers_on c (l ∷ es)))
 unfolding after numbers_on noted_all
-next_entry c d ns n place p h e k =
-    let es = entries_of (take (length ns - 4) (drop 4 ns)) in
-    rw (entries_first ns h, k) (
+next_entry c d l es n place p e k =
+    rw k (
       ap (λ (o : Outcome). after o.column es) e,
       ap (λ (o : Outcome). noted_all (noted_of p o.number place) (place + 1) (numbers_on o.column es)) e,
     )
-
--- numbers that make no entry
-pub no_entry : (c : Column) (ns : List ℕ) (place : ℕ) (p : RefusedEntries) → length ns < 4 → (c ≡ after c (entries_of ns)) × (p ≡ noted_all p place (numbers_on c (entries_of ns)))
-unfolding after numbers_on noted_all
-no_entry c ns place p h = rw (entries_few ns h) (refl, refl)

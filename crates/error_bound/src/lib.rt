@@ -11,9 +11,8 @@ ghost use Rattle.error_bound.specs.Entries.{asked_after, refusals_of, refusals_a
 ghost use Rattle.error_bound.specs.inner.Counting.{numbers_on, noted_of};
 ghost use Rattle.error_bound.specs.Claim.{Claim};
 
-use column::{Column, Line};
+use column::{Column, Entries};
 use figure::Working;
-use member::TributaryArea;
 use refusal::{Refusal, Refused};
 
 // The entries of a list that were refused: how many, and why the first was, with its place, counted from 1.
@@ -53,6 +52,7 @@ impl Refusals {
 }
 
 // Enters every entry of a list of numbers, four an entry, going on past refused ones.
+#[tactic(auto, using(column::proofs::EntriesFrom::entries_length))]
 fn enter_all(column: &mut Column, entries: &[u64]) -> Refusals
     requires { Reached column.old }
     ensures column { (column.new ≡ after column.old (entries_of entries.now)) × Reached column.new }
@@ -60,19 +60,11 @@ fn enter_all(column: &mut Column, entries: &[u64]) -> Refusals
 {
     let mut refusals = NO_REFUSALS;
     let mut place = 0;
-    let mut rest = entries;
-    while let [floor, class, load, area, after @ ..] = rest {
+    for line in Entries(entries) {
         place += 1;
-        let line = Line {
-            floor: *floor,
-            class: *class,
-            load: *load,
-            area: TributaryArea(*area),
-        };
         if let Err(refusal) = column.enter(line) {
             refusals.note(refusal, place);
         }
-        rest = after;
     }
     refusals
 }

@@ -1,14 +1,14 @@
 -- `column::in_place::paste` meets its contract: pasting what is left gives what pasting all from the start gives. Assumes nothing.
-use Rattle.std.proofs.Common.{◌≡◌, refl, sym, ◌∙◌, ap, ℕ, ◌+◌, ◌-◌, ◌≤◌, arith, length, length-take, length-drop, drop}
+use Rattle.std.proofs.Common.{◌≡◌, refl, sym, ◌∙◌, ap, List, ℕ, ◌+◌, ◌-◌, ◌≤◌, arith, Result, Ok}
+use Rattle.refusal.specs.declared.Refusal.{Refusal}
 use Rattle.refusal.specs.Said.{number_told}
 use Rattle.refusal.proofs.Said.{number_positive}
-use Rattle.column.specs.Line.{entries_of}
+use Rattle.column.specs.declared.Member.{Member}
 use Rattle.column.specs.Accepted.{last_floor}
-use Rattle.column.specs.Column.{Outcome, lines_of, column_from, count_after, entered_outcome}
-use Rattle.column.specs.Pasted.{pasted_from, number_or_0, paste_outcome}
-use Rattle.column.proofs.Entries.{entries_few}
+use Rattle.column.specs.Column.{Outcome, lines_of, column_from, Reached, count_after, entered_outcome}
+use Rattle.column.specs.Pasted.{number_or_0, paste_outcome}
 use Rattle.column.proofs.InPlace.{reached_held}
-use Rattle.column.proofs.Pasting.{pasted_next, pasted_end, pasted_none, pasted_onward}
+use Rattle.column.proofs.Pasting.{pasted_next, pasted_end, pasted_none}
 use Rattle.column.proofs.Reach.{entered_count, entered_last}
 use Rattle.column.proofs.in_place.paste.Goals as goal
 
@@ -16,54 +16,57 @@ use Rattle.column.proofs.in_place.paste.Goals as goal
 beside : {count filled : ℕ} → count ≤ filled → count + (filled - count) ≡ filled
 beside h = omega arith
 
+-- what entering gave where the line was kept
+kept : (m : Member) (n : ℕ) {next : ℕ} {r : Result ℕ Refusal} {places : List ℕ} {o : Outcome} → entered_outcome m n r places ≡ o → Reached (column_from m (count_after n r) places) → r ≡ Ok next
+    → (record { number = 0; column = column_from m next places } ≡ o) × Reached (column_from m next places)
+unfolding entered_outcome number_told count_after
+kept m n e reached is = (rw is at e, rw is at reached)
+
 pub last_floor_of-last-requires : goal.last_floor_of-last-requires
 last_floor_of-last-requires c = reached_held c.requires
 
-pub loop-rest-init : goal.loop-rest-init
+pub loop-line-init : goal.loop-line-init
 unfolding lines_of
-loop-rest-init c =
-    let none : c.args.count - c.args.count ≡ 0 = omega arith in (
-      omega arith,
-      c.requires,
-      c.last_floor_of-last.ensures,
-      ap (λ (k : ℕ). pasted_from k (column_from c.args.member c.args.count c.args.held.now) (entries_of c.args.lines.now)) none,
-    )
+loop-line-init c =
+    let none : c.args.count - c.args.count ≡ 0 = omega arith in
+    record {
+      filled = omega arith;
+      reached = c.requires;
+      last = c.last_floor_of-last.ensures;
+      pasted = rw (none, c.into_iter-line-iterator.ensures.into_iter_gives) refl;
+    }
 
 pub enter_below-entered-requires : goal.enter_below-entered-requires
-enter_below-entered-requires c = record { reached = c.loop-rest.invariant.1; last_value = c.loop-rest.invariant.2 }
+enter_below-entered-requires c = record { reached = c.loop-line.invariant.reached; last_value = c.loop-line.invariant.last }
 
 pub returns-in-Err : goal.returns-in-Err
 unfolding paste_outcome number_or_0 entered_outcome number_told count_after
 returns-in-Err c =
-    rw (beside c.loop-rest.invariant.0) (record {
-      pasted = pasted_end (c.loop-rest.filled - c.args.count) _ _ _ _ c.in-Err.ensures.entered (number_positive c.in-Err.refusal)
-          ∙ pasted_onward (c.loop-rest.filled - c.args.count) _ c.loop-rest.rest.now c.in-len4-up.len_at_least c.loop-rest.invariant.3;
+    rw (beside c.loop-line.invariant.filled) (record {
+      pasted = pasted_end _ _ _ _ _ c.in-Err.ensures.entered (number_positive c.in-Err.refusal) ∙ (rw c.in-Some.ensures.steps at c.loop-line.invariant.pasted);
       reached = c.in-Err.ensures.reached;
     })
 
-pub loop-rest-smaller : goal.loop-rest-smaller
-loop-rest-smaller c =
-    omega (arith, length-take (length c.loop-rest.rest.now - 4) (drop 4 c.loop-rest.rest.now), length-drop 4 c.loop-rest.rest.now, c.in-len4-up.len_at_least)
-
-pub loop-rest-preserved : goal.loop-rest-preserved
-unfolding entered_outcome number_told count_after
-loop-rest-preserved c =
-    let j = c.in-Ok.ensures.entered in
+pub loop-line-preserved : goal.loop-line-preserved
+loop-line-preserved c =
+    let l = c.loop-line.invariant in
+    let entered = c.enter_below-entered.ensures in
+    let now = kept c.args.member c.loop-line.filled entered.entered entered.reached c.in-Ok.is in
+    let j = now.0 in
     let zero = sym (ap (λ (o : Outcome). o.number) j) in
-    let one : c.in-Ok.next ≡ c.loop-rest.filled + 1 = ap (λ (o : Outcome). o.column.count) j ∙ entered_count _ c.loop-rest.invariant.1 zero in
-    let more : c.in-Ok.next - c.args.count ≡ c.loop-rest.filled - c.args.count + 1 = omega (arith, one, c.loop-rest.invariant.0) in (
-      omega (arith, one, c.loop-rest.invariant.0),
-      c.in-Ok.ensures.reached,
-      sym (ap (λ (o : Outcome). last_floor (lines_of o.column)) j ∙ entered_last _ _ zero),
-      rw more (pasted_next (c.loop-rest.filled - c.args.count) _ _ _ _ j refl ∙ pasted_onward (c.loop-rest.filled - c.args.count) _ c.loop-rest.rest.now c.in-len4-up.len_at_least c.loop-rest.invariant.3),
-    )
+    let one : c.in-Ok.next ≡ c.loop-line.filled + 1 = ap (λ (o : Outcome). o.column.count) j ∙ entered_count _ l.reached zero in
+    let more : c.in-Ok.next - c.args.count ≡ c.loop-line.filled - c.args.count + 1 = omega (arith, one, l.filled) in
+    record {
+      filled = omega (arith, one, l.filled);
+      reached = now.1;
+      last = sym (ap (λ (o : Outcome). last_floor (lines_of o.column)) j ∙ entered_last _ _ zero);
+      pasted = rw more (pasted_next _ _ _ _ _ j refl ∙ (rw c.in-Some.ensures.steps at l.pasted));
+    }
 
 pub returns : goal.returns
 unfolding paste_outcome number_or_0
 returns c =
-    let d = column_from c.args.member c.loop-rest.filled c.loop-rest.held in
-    let kept = c.loop-rest.filled - c.args.count in
-    rw (beside c.loop-rest.invariant.0) (record {
-      pasted = sym (pasted_none kept d) ∙ (ap (pasted_from kept d) (sym (entries_few c.loop-rest.rest.now c.in_default.len_below)) ∙ c.loop-rest.invariant.3);
-      reached = c.loop-rest.invariant.1;
+    rw (beside c.loop-line.invariant.filled) (record {
+      pasted = sym (pasted_none _ (column_from c.args.member c.loop-line.filled c.loop-line.held)) ∙ (rw c.in-None.ensures.steps.0 at c.loop-line.invariant.pasted);
+      reached = c.loop-line.invariant.reached;
     })

@@ -45,3 +45,12 @@ entries_first ns h = rw (take_all (length ns - 4) (drop 4 ns) (omega (arith, len
 
 pub entries_few : (ns : List ℕ) → length ns < 4 → entries_of ns ≡ []
 entries_few = few
+
+-- there are no more entries than numbers
+pub entries_length : (ns : List ℕ) → length (entries_of ns) ≤ length ns
+unfolding entries_of
+entries_length (f ∷ (c ∷ (l ∷ (a ∷ ns)))) = omega (arith, entries_length ns)
+entries_length (f ∷ (c ∷ (l ∷ []))) = omega arith
+entries_length (f ∷ (c ∷ [])) = omega arith
+entries_length (f ∷ []) = omega arith
+entries_length [] = omega arith
