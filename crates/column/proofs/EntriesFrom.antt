@@ -22,29 +22,18 @@ pub entries_next : (ns : List ℕ) (i : ℕ) → i + 4 ≤ length ns
 unfolding entries_of
 entries_next ns i h = rw (four ns i h)
 
-few : (ns : List ℕ) → length ns < 4 → entries_of ns ≡ []
-unfolding entries_of
-few [] h = refl
-few (a ∷ []) h = refl
-few (a ∷ (b ∷ [])) h = refl
-few (a ∷ (b ∷ (c ∷ []))) h = refl
-few (a ∷ (b ∷ (c ∷ (d ∷ ns)))) h = absurd (omega arith)
-
 -- fewer than four make none
-pub entries_end : (ns : List ℕ) (i : ℕ) → length ns < i + 4 → entries_of (drop i ns) ≡ []
-entries_end ns i h = few (drop i ns) (rw (length-drop i ns) (omega arith))
-
--- so the part of four numbers from an index on is one entry
-pub entries_one : (ns : List ℕ) (i n : ℕ) → n ≡ 4 → i + 4 ≤ length ns → entries_of (take n (drop i ns)) ≡ entry_at ns i ∷ []
+pub entries_few : (ns : List ℕ) → length ns < 4 → entries_of ns ≡ []
 unfolding entries_of
-entries_one ns i n e h = rw (e, four ns i h)
+entries_few [] h = refl
+entries_few (a ∷ []) h = refl
+entries_few (a ∷ (b ∷ [])) h = refl
+entries_few (a ∷ (b ∷ (c ∷ []))) h = refl
+entries_few (a ∷ (b ∷ (c ∷ (d ∷ ns)))) h = absurd (omega arith)
 
 -- the first of some numbers and those after them, as a pattern takes a list apart
 pub entries_first : (ns : List ℕ) → 4 ≤ length ns → entries_of ns ≡ entry_at ns 0 ∷ entries_of (take (length ns - 4) (drop 4 ns))
 entries_first ns h = rw (take_all (length ns - 4) (drop 4 ns) (omega (arith, length-drop 4 ns))) (entries_next ns 0 h)
-
-pub entries_few : (ns : List ℕ) → length ns < 4 → entries_of ns ≡ []
-entries_few = few
 
 -- there are no more entries than numbers
 pub entries_length : (ns : List ℕ) → length (entries_of ns) ≤ length ns

@@ -1,19 +1,16 @@
 -- Pasting is entering, one line after another, up to and with the first refused one.
 -- Assumes nothing.
-use Rattle.std.proofs.Common.{◌≡◌, refl, sym, ◌∙◌, ap, subst, List, [], ◌∷◌, ◌++◌, append-nil, ◌⊎◌, inl, inr, ℕ, suc, ◌+◌, ◌-◌, ◌≤◌, arith, length, take, drop, length-append, take_at, take_all}
+use Rattle.std.proofs.Common.{◌≡◌, refl, sym, ◌∙◌, ap, subst, List, [], ◌∷◌, ◌++◌, append-nil, ◌⊎◌, inl, inr, ℕ, suc, ◌+◌, ◌≤◌, arith, length, take, length-append, take_at, take_all}
 use lib.Seq.{append_snoc}
 use Rattle.refusal.proofs.Said.{by_number, not_zero}
 use Rattle.column.specs.declared.Line.{Line}
 use Rattle.column.specs.declared.Column.{Column}
-use Rattle.column.specs.Column.{Outcome}
-use Rattle.column.specs.Column.{entered_of, after, Reached}
-use Rattle.column.specs.Line.{entries_of}
-use Rattle.column.specs.Pasted.{Pasting, pasted_from, pasted_of}
+use Rattle.column.specs.Column.{Outcome, entered_of, after, Reached}
+use Rattle.column.specs.Pasted.{pasted_from, pasted_of}
 use Rattle.column.specs.theorems.Entering.{NoneRefused, none, more, Stops}
 use Rattle.column.specs.theorems.Pasting.{AllKept, KeptBefore, pasted_entries, EndsAsEntering, KeptAreHeld}
 use Rattle.column.proofs.Reach.{after_append, entered_count, entered_stays, reached_entered}
 use Rattle.column.proofs.Entering.{every_list}
-use Rattle.column.proofs.EntriesFrom.{entry_at, entries_first}
 
 -- ---- one line, and none
 
@@ -40,11 +37,6 @@ module _ (k : ℕ) (c : Column) (l : Line) (ls : List Line) (o : Outcome) (e : o
   pasted_end h =
       ap (λ (p : Outcome). record { number = p.number; kept = k; column = p.column }) e
       ∙ sym (pasted_stops k c l ls (subst (λ (p : Outcome). 1 ≤ p.number) e h))
-
--- the first entry of some numbers and what is left behind it go on as the numbers do
-pub pasted_onward : (k : ℕ) (c : Column) (ns : List ℕ) {whole : Pasting} → 4 ≤ length ns → pasted_from k c (entries_of ns) ≡ whole
-    → pasted_from k c (entry_at ns 0 ∷ entries_of (take (length ns - 4) (drop 4 ns))) ≡ whole
-pasted_onward k c ns h e = ap (pasted_from k c) (sym (entries_first ns h)) ∙ e
 
 -- nothing is left to paste
 pub pasted_none : (k : ℕ) (c : Column) → pasted_from k c [] ≡ record { number = 0; kept = k; column = c }
