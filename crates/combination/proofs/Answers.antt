@@ -86,10 +86,10 @@ pub nothing_lost : (e : PerLoad Float) → NothingLost (combined_of e)
 unfolding combined_of combined NothingLost
 nothing_lost e = go (checked_of e) refl
   where
-    go : (t : Told LoadEffect (List ℤ)) → checked_of e ≡ t → NothingLost (combined_of e)
-    go (gives xs) h = subst⁻¹ NothingLost (checked_governed e xs h) (rows_exact LoadEffect xs (checked_seven e h))
+    go : (t : Told (LoadEffect Load) (List ℤ)) → checked_of e ≡ t → NothingLost (combined_of e)
+    go (gives xs) h = subst⁻¹ NothingLost (checked_governed e xs h) (rows_exact (LoadEffect Load) xs (checked_seven e h))
     go (refused n x) h = subst⁻¹ NothingLost (ap (combined e) h) tt
 
 -- so an answer that says what the definition says promises both
-pub promised : (e : PerLoad Float) {t : Told LoadEffect Governing} → t ≡ combined_of e → (t ≡ combined_of e) × NothingLost t
+pub promised : (e : PerLoad Float) {t : Told (LoadEffect Load) Governing} → t ≡ combined_of e → (t ≡ combined_of e) × NothingLost t
 promised e h = (h, subst⁻¹ NothingLost h (nothing_lost e))

@@ -37,17 +37,17 @@ unfoldable pub governed : List ℤ → Told Load Governing
 governed xs = limited_from loads xs (governing xs)
 
 -- 01, Effects and the 25 combinations: what governs; "A refused effect comes back with the double as it came"
-unfoldable pub with_double : PerLoad Float → Told Load Governing → Told LoadEffect Governing
+unfoldable pub with_double : PerLoad Float → Told Load Governing → Told (LoadEffect Load) Governing
 with_double e (gives g) = gives g
 with_double e (refused n l) = refused n (load_effect l (of_load e l))
 
 -- 01, Numbers by the place of checking: what governs of effects that are taken, or the first refused
-unfoldable pub combined : PerLoad Float → Told LoadEffect (List ℤ) → Told LoadEffect Governing
+unfoldable pub combined : PerLoad Float → Told (LoadEffect Load) (List ℤ) → Told (LoadEffect Load) Governing
 combined e (gives xs) = with_double e (governed xs)
 combined e (refused n x) = refused n x
 
 -- 01, Effects and the 25 combinations: from seven doubles to the governing rows, the check and then what governs
-unfoldable pub combined_of : PerLoad Float → Told LoadEffect Governing
+unfoldable pub combined_of : PerLoad Float → Told (LoadEffect Load) Governing
 combined_of e = combined e (checked_of e)
 
 -- 01, Effects and the 25 combinations: "with nothing lost"; each double's value is the whole number

@@ -60,7 +60,7 @@ pub fn govern(newtons: Newtons) -> Result<Governing, Refused<Load>>
 fn with_double(
     effects: Effects,
     governed: Result<Governing, Refused<Load>>,
-) -> Result<Governing, Refused<LoadEffect>>
+) -> Result<Governing, Refused<LoadEffect<Load>>>
     ensures { told result ≡ with_double effects (told governed) }
 {
     governed.map_err(|refused| Refused {
@@ -74,7 +74,7 @@ fn with_double(
 
 // The governing rows of seven effects, or the first effect that is refused: the check, and then what
 // governs the whole numbers that it gives.
-pub fn combine(effects: Effects) -> Result<Governing, Refused<LoadEffect>>
+pub fn combine(effects: Effects) -> Result<Governing, Refused<LoadEffect<Load>>>
     ensures { (told result ≡ combined_of effects) × NothingLost (told result) }
 {
     let newtons = effects::check(effects)?;

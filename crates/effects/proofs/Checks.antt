@@ -1,5 +1,6 @@
 -- The check of the seven effects, one step over any of them. Assumes nothing.
-use Rattle.std.proofs.Common.{◌≡◌, refl, subst, List, [], ◌∷◌, ◌++◌, ℕ, zero, suc, ◌+◌, ◌≤◌, le_trans, arith, lit≤, ℤ, nat_abs, Float, length, length-append}
+use Rattle.std.proofs.Common.{◌≡◌, refl, subst, List, [], ◌∷◌, ◌++◌, ℕ, zero, suc, ◌+◌, ◌<◌, ◌≤◌, le_trans, arith, lit≤, ℤ, nat_abs, Float, length, length-append, drop, get_or}
+use Rattle.std.proofs.lemmas.List.{drop_more}
 use lib.Ieee.{binary64, of_int}
 use Rattle.effects.specs.declared.PerLoad.{PerLoad}
 use Rattle.effects.specs.declared.LoadEffect.{LoadEffect}
@@ -14,33 +15,30 @@ use Rattle.effects.specs.inner.Sized.{EachAtMost, Sized, Seven}
 use Rattle.newtons.proofs.Values.{value_back}
 use Rattle.newtons.proofs.Limits.{effect_whole, effect_within}
 
--- ---- a step: the first of the effects that are left is taken, and the rest checked, or it is refused
+-- ---- a step: the effect at an index is taken, and the rest checked, or it is refused
 
-module _ (taken : List ℤ) (e : LoadEffect) (es : List LoadEffect) where
-  pub goes_on : (z : ℤ) {t : Told LoadEffect (List ℤ)} → told {B = LoadEffect} (Ok z) ≡ if_given e (effect_of e.double) (λ y. gives y)
-      → checked_from (taken ++ (z ∷ [])) es ≡ t → checked_from taken (e ∷ es) ≡ t
-  unfolding told checked_from if_given
-  goes_on z {t} h k = go (effect_of e.double) h
-    where
-      go : (f : Told Float ℤ) → gives z ≡ if_given e f (λ y. gives y) → if_given e f (λ y. checked_from (taken ++ (y ∷ [])) es) ≡ t
-      go (gives y) h = let q : y ≡ z = cc in rw q k
-      go (refused n x) h = let q : ◌≡◌ {A = ℕ} 0 1 = cc in absurd (omega arith)
+module _ {L : Type 0} (taken : List ℤ) (es : List (LoadEffect L)) (i : ℕ) (d : LoadEffect L) (h : i < length es) where
+  abbrev e : LoadEffect L
+  e = get_or es i d
 
-  pub ends : (r : Refused LoadEffect) → told {A = ℤ} (Err r) ≡ if_given e (effect_of e.double) (λ y. gives y) → checked_from taken (e ∷ es) ≡ refused (number_of r.refusal) r.back
+  pub goes_on : (z : ℤ) → told (Ok z) ≡ if_given e (effect_of e.double) (λ y. gives y) → checked_from (taken ++ (z ∷ [])) (drop (i + 1) es) ≡ checked_from taken (drop i es)
   unfolding told checked_from if_given
-  ends r h = go (effect_of e.double) h
+  goes_on z k = rw (drop_more es i d h) (go (effect_of e.double) k)
     where
-      go : (f : Told Float ℤ) → refused (number_of r.refusal) r.back ≡ if_given e f (λ y. gives y) → if_given e f (λ y. checked_from (taken ++ (y ∷ [])) es) ≡ refused (number_of r.refusal) r.back
-      go (gives y) h = let q : ◌≡◌ {A = ℕ} 0 1 = cc in absurd (omega arith)
-      go (refused n x) h =
+      go : (f : Told Float ℤ) → gives z ≡ if_given e f (λ y. gives y) → checked_from (taken ++ (z ∷ [])) (drop (i + 1) es) ≡ if_given e f (λ y. checked_from (taken ++ (y ∷ [])) (drop (i + 1) es))
+      go (gives y) k = let q : y ≡ z = cc in rw q
+      go (refused n x) k = cc
+
+  pub ends : (r : Refused (LoadEffect L)) → told {A = ℤ} (Err r) ≡ if_given e (effect_of e.double) (λ y. gives y) → told (Err r) ≡ checked_from taken (drop i es)
+  unfolding told checked_from if_given
+  ends r k = rw (drop_more es i d h) (go (effect_of e.double) k)
+    where
+      go : (f : Told Float ℤ) → told {A = ℤ} (Err r) ≡ if_given e f (λ y. gives y) → told (Err r) ≡ if_given e f (λ y. checked_from (taken ++ (y ∷ [])) (drop (i + 1) es))
+      go (gives y) k = cc
+      go (refused n x) k =
           let p : number_of r.refusal ≡ n = cc in
           let q : r.back ≡ load_effect e.load x = cc in
-          cc
-
--- past the last all are taken
-pub all_taken : (taken : List ℤ) → checked_from taken [] ≡ gives taken
-unfolding checked_from
-all_taken taken = refl
+          rw (p, q)
 
 -- ---- the whole numbers taken are within the limit
 
@@ -51,7 +49,7 @@ more_within (x ∷ xs) z f h zero = f 0
 more_within (x ∷ xs) z f h (suc k) = more_within xs z (λ m. f (suc m)) h k
 
 -- as many as were taken before and are listed, each within the limit
-pub all_kept : (taken : List ℤ) (es : List LoadEffect) {xs : List ℤ} → EachAtMost limit taken → checked_from taken es ≡ gives xs → Sized (length taken + length es) limit xs
+pub all_kept : {L : Type 0} (taken : List ℤ) (es : List (LoadEffect L)) {xs : List ℤ} → EachAtMost limit taken → checked_from taken es ≡ gives xs → Sized (length taken + length es) limit xs
 unfolding checked_from if_given
 all_kept taken [] {xs} f e =
     let q : taken ≡ xs = cc in

@@ -25,7 +25,7 @@ abbrev pub loads : List Load
 loads = Dead ∷ Live ∷ Roof ∷ Snow ∷ Rain ∷ Wind ∷ Quake ∷ []
 
 -- 01, Effects and the 25 combinations: the effect of one load, as a double
-abbrev pub load_effect : Load → Float → LoadEffect
+abbrev pub load_effect : {L : Type 0} → L → Float → LoadEffect L
 load_effect l x = record { load = l; double = x }
 
 -- 01, Effects and the 25 combinations: what there is for one load
@@ -39,7 +39,7 @@ of_load p Wind = p.wind
 of_load p Quake = p.quake
 
 -- 01, Effects and the 25 combinations: "D dead, L live, Lr roof, S snow, R rain, W wind, E earthquake", in the list's order
-unfoldable pub listed : PerLoad Float → List LoadEffect
+unfoldable pub listed : PerLoad Float → List (LoadEffect Load)
 listed e = map (λ l. load_effect l (of_load e l)) loads
 
 -- 01, Effects and the 25 combinations: the seven as whole newtons, in the same order
@@ -47,20 +47,20 @@ unfoldable pub newtons_of : PerLoad ℤ → List ℤ
 newtons_of n = map (of_load n) loads
 
 -- 01, Numbers by the place of checking: goes on with the whole number of an effect, or refuses it with the double as it came
-unfoldable pub if_given : {A : Type 0} → LoadEffect → Told Float ℤ → (ℤ → Told LoadEffect A) → Told LoadEffect A
+unfoldable pub if_given : {L A : Type 0} → LoadEffect L → Told Float ℤ → (ℤ → Told (LoadEffect L) A) → Told (LoadEffect L) A
 if_given e (gives z) next = next z
 if_given e (refused n x) next = refused n (load_effect e.load x)
 
 -- 01, Numbers by the place of checking: "D to E as listed, each"; taken are the whole numbers of those before
-unfoldable pub checked_from : List ℤ → List LoadEffect → Told LoadEffect (List ℤ)
+unfoldable pub checked_from : {L : Type 0} → List ℤ → List (LoadEffect L) → Told (LoadEffect L) (List ℤ)
 checked_from taken [] = gives taken
 checked_from taken (e ∷ es) = if_given e (effect_of e.double) (λ z. checked_from (taken ++ (z ∷ [])) es)
 
 -- 01, Numbers by the place of checking: the seven effects, D to E
-unfoldable pub checked_of : PerLoad Float → Told LoadEffect (List ℤ)
+unfoldable pub checked_of : PerLoad Float → Told (LoadEffect Load) (List ℤ)
 checked_of e = checked_from [] (listed e)
 
 -- 01, Where each language form belongs: the number and the values of each case
-unfoldable pub said_checked : Result (PerLoad ℤ) (Refused LoadEffect) → Told LoadEffect (List ℤ)
+unfoldable pub said_checked : Result (PerLoad ℤ) (Refused (LoadEffect Load)) → Told (LoadEffect Load) (List ℤ)
 said_checked (Ok n) = gives (newtons_of n)
 said_checked (Err r) = refused (number_of r.refusal) r.back

@@ -1,10 +1,10 @@
 // The effects of loads, handed over as doubles and checked: whole newtons, or the first that is refused.
 #![tactic(auto)]
 
-ghost use Rattle.std.specs.Prelude.{◌≡◌, map};
+ghost use Rattle.std.specs.Prelude.{◌≡◌, [], map};
 ghost use Rattle.refusal.specs.Said.{gives, told};
 ghost use Rattle.newtons.specs.Effect.{effect_of};
-ghost use Rattle.effects.specs.Check.{loads, place_of, of_load, newtons_of, load_effect, if_given, checked_of, said_checked};
+ghost use Rattle.effects.specs.Check.{loads, place_of, of_load, newtons_of, load_effect, if_given, checked_from, checked_of, said_checked};
 
 use refusal::Refused;
 
@@ -76,40 +76,62 @@ impl<T: Copy> PerLoad<T> {
     }
 }
 
-// The effect of one load, as it came.
+// The effect of one load, as it came. The load is named as who hands it over names it: itself, or its place on a sheet.
 #[derive(Clone, Copy)]
-pub struct LoadEffect {
-    pub load: Load,
+pub struct LoadEffect<L> {
+    pub load: L,
     pub double: f64,
+}
+
+impl<L: Copy> LoadEffect<L> {
+    // The effect of a load.
+    pub fn new(load: L, double: f64) -> LoadEffect<L>
+        ensures { result ≡ load_effect load double }
+    {
+        LoadEffect { load, double }
+    }
 }
 
 // The effect of one load in whole newtons, or its refusal.
 #[inline(always)]
-fn whole_of(load: Load, double: f64) -> Result<i64, Refused<LoadEffect>>
-    ensures { told result ≡ if_given (load_effect load double) (effect_of double) (λ z. gives z) }
+fn whole_of<L: Copy>(effect: LoadEffect<L>) -> Result<i64, Refused<LoadEffect<L>>>
+    ensures { told result ≡ if_given effect (effect_of effect.double) (λ z. gives z) }
 {
-    newtons::whole_of(double)
+    newtons::whole_of(effect.double)
         .checked()
         .map_err(|refused| Refused {
             refusal: refused.refusal,
-            back: LoadEffect {
-                load,
-                double: refused.back,
-            },
+            back: LoadEffect::new(effect.load, refused.back),
         })
 }
 
+// Each of so many effects in whole newtons, checked in turn, or the first that is refused. The library's try_map says of its
+// error only that some element gives it, and not that it is the first.
+pub fn check_each<L: Copy, const N: usize>(
+    effects: [LoadEffect<L>; N],
+) -> Result<[i64; N], Refused<LoadEffect<L>>>
+    ensures { told result ≡ checked_from [] effects }
+{
+    let mut newtons = [0; N];
+    for (i, effect) in effects.iter().enumerate() {
+        newtons[i] = whole_of(*effect)?;
+    }
+    Ok(newtons)
+}
+
 // The seven effects in whole newtons, checked dead to quake, or the first that is refused.
-pub fn check(effects: Effects) -> Result<Newtons, Refused<LoadEffect>>
+pub fn check(effects: Effects) -> Result<Newtons, Refused<LoadEffect<Load>>>
     ensures { said_checked result ≡ checked_of effects }
 {
-    let dead = whole_of(Load::Dead, effects.dead)?;
-    let live = whole_of(Load::Live, effects.live)?;
-    let roof = whole_of(Load::Roof, effects.roof)?;
-    let snow = whole_of(Load::Snow, effects.snow)?;
-    let rain = whole_of(Load::Rain, effects.rain)?;
-    let wind = whole_of(Load::Wind, effects.wind)?;
-    let quake = whole_of(Load::Quake, effects.quake)?;
+    let [dead, live, roof, snow, rain, wind, quake] = check_each([
+        LoadEffect::new(Load::Dead, effects.dead),
+        LoadEffect::new(Load::Live, effects.live),
+        LoadEffect::new(Load::Roof, effects.roof),
+        LoadEffect::new(Load::Snow, effects.snow),
+        LoadEffect::new(Load::Rain, effects.rain),
+        LoadEffect::new(Load::Wind, effects.wind),
+        LoadEffect::new(Load::Quake, effects.quake),
+    ])?;
     Ok(PerLoad {
         dead,
         live,

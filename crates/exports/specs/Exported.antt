@@ -7,6 +7,7 @@ use Rattle.figure.specs.declared.Working.{Working}
 use Rattle.effects.specs.declared.LoadEffect.{LoadEffect}
 use Rattle.combination.specs.declared.GoverningRow.{GoverningRow}
 use Rattle.combination.specs.declared.Governing.{Governing}
+use Rattle.effects.specs.declared.Load.{Load}
 use Rattle.effects.specs.declared.PerLoad.{PerLoad}
 use Rattle.effects.specs.Check.{place_of}
 use Rattle.exports.specs.declared.checks.BungeroEffects.{BungeroEffects}
@@ -46,7 +47,7 @@ abbrev pub no_row : GoverningRow
 no_row = record { row = 0; tenths = pos 0; double = plus_zero }
 
 -- 01, Effects and the 25 combinations: the governing rows with the number 0, or the number, which effect it is, and its double
-unfoldable pub shown_combined : Told LoadEffect Governing → BungeroCombined
+unfoldable pub shown_combined : Told (LoadEffect Load) Governing → BungeroCombined
 shown_combined (gives g) = record { number = 0; place = 0; double = plus_zero; governing = g }
 shown_combined (refused n e) = record { number = n; place = place_of e.load; double = e.double; governing = record { greatest = no_row; least = no_row } }
 
@@ -68,6 +69,6 @@ handed_out r =
     record { number = r.number; place = r.place; double = r.double; newtons = n.dead ∷ n.live ∷ n.roof ∷ n.snow ∷ n.rain ∷ n.wind ∷ n.quake ∷ [] }
 
 -- 01, Effects and the 25 combinations: the whole newtons with the number 0, or the number, which effect it is, and its double
-unfoldable pub shown_checked : Told LoadEffect (List ℤ) → HandedOut
+unfoldable pub shown_checked : Told (LoadEffect Load) (List ℤ) → HandedOut
 shown_checked (gives zs) = record { number = 0; place = 0; double = plus_zero; newtons = zs }
 shown_checked (refused n e) = record { number = n; place = place_of e.load; double = e.double; newtons = replicate 7 (pos 0) }

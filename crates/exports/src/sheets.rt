@@ -8,9 +8,10 @@ ghost use Rattle.sheet.specs.Keeps.{Keeps};
 ghost use Rattle.sheet_writer.specs.Saving.{saving, saved_of, saved_text};
 
 use column::{ColumnRef, Member, Places};
+use effects::LoadEffect;
 use refusal::Refused;
 use sheet::Reading;
-use sheet_writer::{Placed, SheetDoubles, Written};
+use sheet_writer::{SheetDoubles, Written};
 
 // Reads a text as a sheet.
 #[unsafe(no_mangle)]
@@ -48,13 +49,13 @@ pub extern "C" fn bungero_write(
             length,
         },
         Err(Refused { refusal, back }) => {
-            let effect = back.unwrap_or(Placed {
-                place: 0,
+            let effect = back.unwrap_or(LoadEffect {
+                load: 0,
                 double: 0.0,
             });
             Written {
                 number: refusal.number(),
-                place: effect.place,
+                place: effect.load,
                 double: effect.double,
                 length: 0,
             }

@@ -1,17 +1,15 @@
--- What `map_err` gives, and what the exit of a `?` gives. Assumes nothing.
-use Rattle.std.proofs.Common.{◌≡◌, ap, ◌∙◌}
+-- What is told of an answer whose refusal gets something else back, by `map_err`. Assumes nothing.
+use Rattle.std.proofs.Common.{◌≡◌, sym, ◌∙◌, ap, ℕ}
 use Rattle.std.specs.Prelude.{Result, Ok, Err}
 use Rattle.std.specs.Result.{MatchResult, IsErrAnd}
 use Rattle.std.proofs.lemmas.Result.{err_from_is_err_and}
+use Rattle.refusal.specs.declared.Refused.{Refused}
+use Rattle.refusal.specs.Said.{Told, gives, refused, told}
 
--- an error as another
-unfoldable pub mapped : {A E F : Type 0} → (E → F) → Result A E → Result A F
-mapped f (Ok a) = Ok a
-mapped f (Err e) = Err (f e)
-
--- `map_err` gives that, where its closure gives f of an error
-pub mapped_is : {A E F : Type 0} (f : E → F) (Q : E → F → Type 0) (r : Result A E) (m : Result A F)
-    → ((e : E) (y : F) → Q e y → y ≡ f e) → MatchResult r (λ a. m ≡ Ok a) (λ e. IsErrAnd m (Q e)) → m ≡ mapped f r
-unfolding mapped
-mapped_is f Q (Ok a) m k h = h
-mapped_is f Q (Err e) m k h = let p = err_from_is_err_and m h in p.1 ∙ ap Err (k e p.0 p.2)
+-- where the closure hands f of it back, and so does what is to be told
+pub told_mapped : {A B C : Type 0} (f : B → C) (tells : Told B A → Told C A) → ((a : A) → tells (gives a) ≡ gives a) → ((n : ℕ) (b : B) → tells (refused n b) ≡ refused n (f b))
+    → {Q : Refused B → Refused C → Type 0} (r : Result A (Refused B)) (m : Result A (Refused C)) → ((q : Refused B) (y : Refused C) → Q q y → y ≡ record { refusal = q.refusal; back = f q.back })
+    → MatchResult r (λ a. m ≡ Ok a) (λ q. IsErrAnd m (Q q)) → told m ≡ tells (told r)
+unfolding told
+told_mapped f tells at_ok at_err (Ok a) m closure h = rw h (sym (at_ok a))
+told_mapped f tells at_ok at_err (Err q) m closure h = let p = err_from_is_err_and m h in rw (p.1, closure q p.0 p.2) (sym (at_err _ q.back))

@@ -12,10 +12,10 @@ use Rattle.column.specs.Column.{lines_of, column_of}
 use Rattle.sheet_lines.specs.Form.{member_keys, floor_keys, effect_keys}
 use Rattle.sheet_lines.specs.LineText.{fields_text, member_text, line_numbers, floor_text, effect_text}
 use Rattle.sheet_text.specs.Written.{effect_lines, lines_in, written}
-use Rattle.sheet_writer.specs.Saving.{six_listed, six_checked, sheet_place, if_whole, if_room, saving}
+use Rattle.sheet_writer.specs.Saving.{six_listed, six_checked, if_whole, if_room, saving}
 use Rattle.sheet_writer.specs.tables.Examples.{puts, offices, examples, Says}
 
 -- 02, CR 2: every example, by computing it
 pub examples_hold : All Says examples
-unfolding examples Says puts offices saving if_whole if_room six_checked six_listed sheet_place checked_from if_given effect_of limited value_of signed written lines_in effect_lines text_of member_text floor_text effect_text fields_text line_numbers member_keys floor_keys effect_keys joined signed_parts decimal digits_in last_digit lines_of column_of entries_of unpacked
+unfolding examples Says puts offices saving if_whole if_room six_checked six_listed checked_from if_given effect_of limited value_of signed written lines_in effect_lines text_of member_text floor_text effect_text fields_text line_numbers member_keys floor_keys effect_keys joined signed_parts decimal digits_in last_digit lines_of column_of entries_of unpacked
 examples_hold = more refl (more refl (more refl (more refl (more refl (more refl (more refl (more refl none)))))))

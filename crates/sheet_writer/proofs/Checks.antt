@@ -5,34 +5,14 @@ use Rattle.std.specs.Prelude.{unwrap_or}
 use Rattle.refusal.specs.declared.Refused.{Refused}
 use Rattle.refusal.specs.Refusal.{number_of}
 use Rattle.refusal.specs.Said.{Told, gives, refused, told}
-use Rattle.effects.specs.declared.Load.{Load}
-use Rattle.effects.specs.declared.LoadEffect.{LoadEffect}
-use Rattle.effects.specs.Check.{load_effect, if_given}
 use Rattle.column.specs.declared.Column.{Column}
 use Rattle.sheet_text.specs.Written.{written}
-use Rattle.sheet_writer.specs.declared.Placed.{Placed}
 use Rattle.sheet_writer.specs.declared.SheetDoubles.{SheetDoubles}
-use Rattle.sheet_writer.specs.Saving.{six_checked, sheet_place, no_effect, if_whole, if_room, saving, sized, saved_of}
-use Rattle.sheet_writer.specs.inner.Parts.{placed_at, sheet_from}
-
--- an effect that is taken has that whole number
-pub taken_is : (place : ℕ) (t : Told Float ℤ) {z : ℤ} → told {B = Option Placed} (Ok z) ≡ placed_at place t → t ≡ gives z
-unfolding told placed_at
-taken_is place (gives y) {z} h = let q : z ≡ y = cc in ap gives (sym q)
-taken_is place (refused n x) {z} h = cc
-
--- one that is refused ends the check
-pub ends : {A : Type 0} (l : Load) (x : Float) (t : Told Float ℤ) (next : ℤ → Told LoadEffect (List ℤ)) (go : List ℤ → Told (Option Placed) A) (r : Refused (Option Placed))
-    → told {A = ℤ} (Err r) ≡ placed_at (sheet_place l) t → told {A = A} (Err r) ≡ if_whole (if_given (load_effect l x) t next) go
-unfolding told placed_at if_given if_whole
-ends l x (gives y) next go r h = cc
-ends l x (refused n y) next go r h =
-    let p : number_of r.refusal ≡ n = cc in
-    let q : r.back ≡ Some (record { place = sheet_place l; double = y }) = cc in
-    rw (p, q)
+use Rattle.sheet_writer.specs.Saving.{Placed, six_checked, no_effect, if_whole, if_room, saving, sized, saved_of}
+use Rattle.sheet_writer.specs.inner.Parts.{sheet_from}
 
 -- what is told of all six tells how they are checked
-pub six_taken_are : (t : Told LoadEffect (List ℤ)) {zs : List ℤ} → told {B = Option Placed} (Ok zs) ≡ if_whole t (λ ys. gives ys) → t ≡ gives zs
+pub six_taken_are : (t : Told Placed (List ℤ)) {zs : List ℤ} → told {B = Option Placed} (Ok zs) ≡ if_whole t (λ ys. gives ys) → t ≡ gives zs
 unfolding told if_whole
 six_taken_are (gives ys) {zs} h = let q : zs ≡ ys = cc in ap gives (sym q)
 six_taken_are (refused n e) {zs} h = cc
@@ -47,12 +27,12 @@ module _ (c : Column) (e : SheetDoubles) (room : ℕ) where
   unfolding saving if_whole told
   saving_refused r h = go (six_checked e) h
     where
-      go : (t : Told LoadEffect (List ℤ)) → refused (number_of r.refusal) r.back ≡ if_whole {A = List ℤ} t (λ zs. gives zs)
+      go : (t : Told Placed (List ℤ)) → refused (number_of r.refusal) r.back ≡ if_whole {A = List ℤ} t (λ zs. gives zs)
           → if_whole t (λ zs. if_room room (written (sheet_from c zs))) ≡ refused (number_of r.refusal) r.back
       go (gives zs) h = cc
       go (refused n x) h =
           let p : number_of r.refusal ≡ n = cc in
-          let q : r.back ≡ Some (record { place = sheet_place x.load; double = x.double }) = cc in
+          let q : r.back ≡ Some x = cc in
           rw (p, q)
 
 -- with room for the text, and without
@@ -73,7 +53,7 @@ written_is (refused k p) {n} h = cc
 
 pub refused_is : (t : Told (Option Placed) (List ℕ)) (r : Refused (Option Placed)) → told {A = ℕ} (Err r) ≡ sized t
     → let p = unwrap_or r.back no_effect in
-    record { number = number_of r.refusal; place = p.place; double = p.double; length = 0 } ≡ saved_of t
+    record { number = number_of r.refusal; place = p.load; double = p.double; length = 0 } ≡ saved_of t
 unfolding told sized saved_of
 refused_is (gives text) r h = cc
 refused_is (refused k p) r h =

@@ -23,8 +23,7 @@ use Rattle.sheet_text.specs.theorems.Exactly.{read_as}
 use Rattle.sheet_text.proofs.Back.{exactly}
 use Rattle.sheet_writer.specs.declared.SheetDoubles.{SheetDoubles}
 use Rattle.std.specs.Prelude.{Option, None}
-use Rattle.sheet_writer.specs.declared.Placed.{Placed}
-use Rattle.sheet_writer.specs.Saving.{six_listed, six_checked, if_whole, if_room, saving, saved_text, saved_of}
+use Rattle.sheet_writer.specs.Saving.{Placed, six_listed, six_checked, if_whole, if_room, saving, saved_text, saved_of}
 use Rattle.sheet_writer.specs.theorems.RoundTrip.{Returns, ReadBack, sheet_doubles_of, WrittenBack, AnySheet, EffectsTaken, TouchesNoMore, RoomSuffices}
 use Rattle.sheet_writer.proofs.Checks.{with_room, without_room}
 use Rattle.sheet_writer.proofs.Sizes.{written_most}
@@ -49,7 +48,7 @@ effect_early x = go (value_of x)
     go not_whole = (omega arith, omega arith)
     go (whole z) = pass z (leb (magnitude_of z) limit)
 
-checked_early : (taken : List ℤ) (es : List LoadEffect) → Early (checked_from taken es)
+checked_early : {L : Type 0} (taken : List ℤ) (es : List (LoadEffect L)) → Early (checked_from taken es)
 unfolding checked_from if_given Early
 checked_early taken [] = tt
 checked_early taken (e ∷ es) = go (effect_of e.double) (effect_early e.double) (λ z. checked_early (taken ++ (z ∷ [])) es)
@@ -58,7 +57,7 @@ checked_early taken (e ∷ es) = go (effect_of e.double) (effect_early e.double)
     go (gives z) h next = next z
     go (refused n x) h next = h
 
-refused_early : (e : SheetDoubles) {n : ℕ} {x : LoadEffect} → six_checked e ≡ refused n x → (8 ≤ n) × (n ≤ 9)
+refused_early : (e : SheetDoubles) {n : ℕ} {x : Placed} → six_checked e ≡ refused n x → (8 ≤ n) × (n ≤ 9)
 unfolding six_checked Early
 refused_early e h = subst Early h (checked_early [] (six_listed e))
 
@@ -115,7 +114,7 @@ read_back c e buffer r = go (six_checked e) refl
         rw (with_room (length buffer) (written s) p, fronted_take (written s) buffer) (returns-text s e (keeps_six c e zs r q) q)
     fit zs q false p h = absurd (omega (arith, ap (λ (t : Told (Option Placed) (List ℕ)). (saved_of t).number) (without_room (length buffer) (written (record { column = c; effects = zs })) p), h))
 
-    go : (t : Told LoadEffect (List ℤ)) → six_checked e ≡ t
+    go : (t : Told Placed (List ℤ)) → six_checked e ≡ t
         → let told = if_whole t (λ zs. if_room (length buffer) (written (record { column = c; effects = zs }))) in
         (saved_of told).number ≡ 0 → Returns (read_sheet (take (saved_of told).length (fronted (saved_text told) buffer))) c e
     go (gives zs) q h = fit zs q (leb (length (written (record { column = c; effects = zs }))) (length buffer)) refl h
@@ -172,7 +171,7 @@ pub room_suffices : RoomSuffices
 unfolding saving if_whole saved_of
 room_suffices = record { longest = written_most; never_short = λ c e buffer r size. go c e buffer r size (six_checked e) refl }
   where
-    go : (c : Column) (e : SheetDoubles) (buffer : List ℕ) → Reached c → 12288 ≤ length buffer → (t : Told LoadEffect (List ℤ)) → six_checked e ≡ t
+    go : (c : Column) (e : SheetDoubles) (buffer : List ℕ) → Reached c → 12288 ≤ length buffer → (t : Told Placed (List ℤ)) → six_checked e ≡ t
         → (saved_of (if_whole t (λ zs. if_room (length buffer) (written (record { column = c; effects = zs }))))).number ≡ 12 → ⊥
     go c e buffer r size (gives zs) q h =
         let s : Sheet = record { column = c; effects = zs } in

@@ -5,14 +5,14 @@ ghost use Rattle.std.specs.Prelude.{◌≡◌, leb, length, IfOk};
 ghost use Rattle.io.specs.Counts.{IsPrefixLen};
 ghost use Rattle.text.specs.Put.{fronted};
 ghost use Rattle.refusal.specs.Said.{gives, told};
-ghost use Rattle.newtons.specs.Effect.{effect_of};
 ghost use Rattle.column.specs.Seen.{column_seen};
 ghost use Rattle.sheet.specs.Keeps.{EffectsWithin};
 ghost use Rattle.sheet_text.specs.Written.{written};
 ghost use Rattle.sheet_writer.specs.Saving.{six_checked, if_whole, if_room, saving, saved_text, sized};
-ghost use Rattle.sheet_writer.specs.inner.Parts.{placed_at, sheet_from};
+ghost use Rattle.sheet_writer.specs.inner.Parts.{sheet_from};
 
 use column::ColumnRef;
+use effects::LoadEffect;
 use refusal::{Refusal, Refused};
 use sheet_lines::EFFECTS;
 
@@ -45,39 +45,25 @@ pub struct Written {
     pub length: usize,
 }
 
-// An effect of a sheet that is refused: its place, 1 for dead to 6 for quake, and its double as it came.
-#[derive(Clone, Copy)]
-pub struct Placed {
-    pub place: u64,
-    pub double: f64,
-}
-
-// The effect at a place in whole newtons.
-fn whole_at(place: u64, double: f64) -> Result<i64, Refused<Option<Placed>>>
-    ensures { told result ≡ placed_at place (effect_of double) }
-{
-    newtons::whole_of(double)
-        .checked()
-        .map_err(|refused| Refused {
-            refusal: refused.refusal,
-            back: Some(Placed {
-                place,
-                double: refused.back,
-            }),
-        })
-}
+// An effect of a sheet that is refused: the place of its load, 1 for dead to 6 for quake, and its double as it came.
+pub type Placed = LoadEffect<u64>;
 
 // The six effects of a sheet in whole newtons, checked dead to quake.
 fn whole_effects(effects: SheetDoubles) -> Result<[i64; EFFECTS], Refused<Option<Placed>>>
     ensures { told result ≡ if_whole (six_checked effects) (λ zs. gives zs) }
 {
-    let dead = whole_at(1, effects.dead)?;
-    let roof = whole_at(2, effects.roof)?;
-    let snow = whole_at(3, effects.snow)?;
-    let rain = whole_at(4, effects.rain)?;
-    let wind = whole_at(5, effects.wind)?;
-    let quake = whole_at(6, effects.quake)?;
-    Ok([dead, roof, snow, rain, wind, quake])
+    effects::check_each([
+        LoadEffect::new(1, effects.dead),
+        LoadEffect::new(2, effects.roof),
+        LoadEffect::new(3, effects.snow),
+        LoadEffect::new(4, effects.rain),
+        LoadEffect::new(5, effects.wind),
+        LoadEffect::new(6, effects.quake),
+    ])
+    .map_err(|refused| Refused {
+        refusal: refused.refusal,
+        back: Some(refused.back),
+    })
 }
 
 // Whether a buffer of so many bytes has room for a sheet. One that suffices for every sheet is not held

@@ -8,7 +8,7 @@ use std::fmt;
 #[derive(Drop)]
 pub enum Answer {
     Whole(Result<i64, Refused<f64>>),
-    Combine(Result<Governing, Refused<LoadEffect>>),
+    Combine(Result<Governing, Refused<LoadEffect<Load>>>),
     Govern(Result<Governing, Refused<Load>>),
 }
 

@@ -1,66 +1,41 @@
--- `effects::check` meets its contract: each load in turn is taken, and the next checked, or the answer is its refusal. Assumes nothing.
-use Rattle.std.proofs.Common.{◌≡◌, sym, rules, w64}
-use Rattle.std.specs.Prelude.{Result, List, ℤ}
-use Rattle.std.specs.Result.{IsErrAnd}
+-- `effects::check` meets its contract: seven numbers are one for each load. Assumes nothing.
+use Rattle.std.proofs.Common.{◌≡◌, ◌∙◌, ap, sym, List, [], ◌∷◌, ℕ, arith, lit<, ℤ, pos, get_or, w64, to_z, of_z}
 use Rattle.std.proofs.lemmas.Result.{err_from_is_err_and}
-use Rattle.refusal.specs.declared.Refused.{Refused}
-use Rattle.refusal.specs.Refusal.{number_of}
-use Rattle.refusal.specs.Said.{Told, refused}
-use Rattle.effects.specs.declared.PerLoad.{PerLoad}
-use Rattle.effects.specs.declared.LoadEffect.{LoadEffect}
-use Rattle.effects.specs.Check.{listed, newtons_of, checked_of, said_checked}
-use mir.ValLaws.{to_z-of_z}
-use Rattle.effects.proofs.Checks.{goes_on, ends, all_taken}
+use Rattle.refusal.specs.Said.{told}
+use Rattle.newtons.specs.Effect.{limit}
+use Rattle.newtons.proofs.Word.{kept}
+use Rattle.effects.specs.Check.{listed, newtons_of, checked_from, checked_of, said_checked}
+use Rattle.effects.specs.inner.Sized.{Seven}
+use Rattle.effects.proofs.Checks.{checked_seven}
 use Rattle.effects.proofs.check.Goals as goal
+use Rattle.effects.proofs.check.Goals.{After-check_each}
 
--- the exit of a `?` says the refusal of the load
-exits : (r : Refused LoadEffect) {t : Told LoadEffect (List ℤ)} (m : Result (PerLoad ℤ) (Refused LoadEffect)) → IsErrAnd m (λ y. y ≡ r) → t ≡ refused (number_of r.refusal) r.back → said_checked m ≡ t
-unfolding said_checked
-exits r m h e = let p = err_from_is_err_and m h in rw (p.1, p.2) (sym e)
+-- what is checked are the effects as listed
+tells : (c : After-check_each) → told c.check_each.result ≡ checked_of c.args.effects
+unfolding checked_of listed
+tells c = c.check_each.ensures ∙ ap (λ es. checked_from [] es) list
+  where
+    list : (c.new.result ∷ c.new-2.result ∷ c.new-3.result ∷ c.new-4.result ∷ c.new-5.result ∷ c.new-6.result ∷ c.new-7.result ∷ []) ≡ listed c.args.effects
+    list = rw (c.new.ensures, c.new-2.ensures, c.new-3.ensures, c.new-4.ensures, c.new-5.ensures, c.new-6.ensures, c.new-7.ensures)
 
 pub returns-in_err-dead : goal.returns-in_err-dead
-unfolding checked_of listed
+unfolding said_checked told
 returns-in_err-dead c =
-    exits _ c.from_residual.result c.from_residual.ensures.1 (ends _ _ _ _ c.in_err-dead.ensures)
+    let p = err_from_is_err_and c.from_residual.result c.from_residual.ensures.1 in
+    rw (p.1, p.2) (rw c.in_err-dead.was at (tells (goal.at.returns-in_err-dead c).After-check_each))
 
-pub returns-in_err-live : goal.returns-in_err-live
-unfolding checked_of listed
-returns-in_err-live c =
-    exits _ c.from_residual-in_err-live.result c.from_residual-in_err-live.ensures.1 (goes_on _ _ _ _ c.in_ok-dead.ensures (ends _ _ _ _ c.in_err-live.ensures))
+-- the number at an index as 64 bits keep it
+abbrev at : List ℤ → ℕ → ℤ
+at xs k = to_z w64 (of_z w64 (get_or xs k (pos 0)))
 
-pub returns-in_err-roof : goal.returns-in_err-roof
-unfolding checked_of listed
-returns-in_err-roof c =
-    exits _ c.from_residual-in_err-roof.result c.from_residual-in_err-roof.ensures.1 (goes_on _ _ _ _ c.in_ok-dead.ensures (goes_on _ _ _ _ c.in_ok-live.ensures (ends _ _ _ _ c.in_err-roof.ensures)))
-
-pub returns-in_err-snow : goal.returns-in_err-snow
-unfolding checked_of listed
-returns-in_err-snow c =
-    exits _ c.from_residual-in_err-snow.result c.from_residual-in_err-snow.ensures.1 (goes_on _ _ _ _ c.in_ok-dead.ensures (goes_on _ _ _ _ c.in_ok-live.ensures (goes_on _ _ _ _ c.in_ok-roof.ensures (ends _ _ _ _ c.in_err-snow.ensures))))
-
-pub returns-in_err-rain : goal.returns-in_err-rain
-unfolding checked_of listed
-returns-in_err-rain c =
-    exits _ c.from_residual-in_err-rain.result c.from_residual-in_err-rain.ensures.1 (goes_on _ _ _ _ c.in_ok-dead.ensures (goes_on _ _ _ _ c.in_ok-live.ensures (goes_on _ _ _ _ c.in_ok-roof.ensures (goes_on _ _ _ _ c.in_ok-snow.ensures (ends _ _ _ _ c.in_err-rain.ensures)))))
-
-pub returns-in_err-wind : goal.returns-in_err-wind
-unfolding checked_of listed
-returns-in_err-wind c =
-    exits _ c.from_residual-in_err-wind.result c.from_residual-in_err-wind.ensures.1 (goes_on _ _ _ _ c.in_ok-dead.ensures (goes_on _ _ _ _ c.in_ok-live.ensures (goes_on _ _ _ _ c.in_ok-roof.ensures (goes_on _ _ _ _ c.in_ok-snow.ensures (goes_on _ _ _ _ c.in_ok-rain.ensures (ends _ _ _ _ c.in_err-wind.ensures))))))
-
-pub returns-in_err-quake : goal.returns-in_err-quake
-unfolding checked_of listed
-returns-in_err-quake c =
-    exits _ c.from_residual-in_err-quake.result c.from_residual-in_err-quake.ensures.1 (goes_on _ _ _ _ c.in_ok-dead.ensures (goes_on _ _ _ _ c.in_ok-live.ensures (goes_on _ _ _ _ c.in_ok-roof.ensures (goes_on _ _ _ _ c.in_ok-snow.ensures (goes_on _ _ _ _ c.in_ok-rain.ensures (goes_on _ _ _ _ c.in_ok-wind.ensures (ends _ _ _ _ c.in_err-quake.ensures)))))))
+seven_kept : (xs : List ℤ) → Seven limit xs → (at xs 0 ∷ at xs 1 ∷ at xs 2 ∷ at xs 3 ∷ at xs 4 ∷ at xs 5 ∷ at xs 6 ∷ []) ≡ xs
+seven_kept (a ∷ b ∷ c ∷ d ∷ e ∷ f ∷ g ∷ []) s =
+    let small = lit< tt in
+    simp (kept {z = a} (s.each 0) small, kept {z = b} (s.each 1) small, kept {z = c} (s.each 2) small, kept {z = d} (s.each 3) small, kept {z = e} (s.each 4) small, kept {z = f} (s.each 5) small, kept {z = g} (s.each 6) small)
+seven_kept xs s = absurd (omega (arith, s.count))
 
 pub returns : goal.returns
-unfolding checked_of listed newtons_of said_checked
+unfolding newtons_of said_checked told
 returns c =
-    let dead = to_z-of_z w64 c.in_ok-dead.dead (search rules) in
-    let live = to_z-of_z w64 c.in_ok-live.live (search rules) in
-    let roof = to_z-of_z w64 c.in_ok-roof.roof (search rules) in
-    let snow = to_z-of_z w64 c.in_ok-snow.snow (search rules) in
-    let rain = to_z-of_z w64 c.in_ok-rain.rain (search rules) in
-    let wind = to_z-of_z w64 c.in_ok-wind.wind (search rules) in
-    let quake = to_z-of_z w64 c.in_ok-quake.quake (search rules) in
-    simp (dead, live, roof, snow, rain, wind, quake) (sym (goes_on _ _ _ _ c.in_ok-dead.ensures (goes_on _ _ _ _ c.in_ok-live.ensures (goes_on _ _ _ _ c.in_ok-roof.ensures (goes_on _ _ _ _ c.in_ok-snow.ensures (goes_on _ _ _ _ c.in_ok-rain.ensures (goes_on _ _ _ _ c.in_ok-wind.ensures (goes_on _ _ _ _ c.in_ok-quake.ensures (all_taken _)))))))))
+    let t = rw c.in_ok-dead.was at (tells (goal.at.returns c).After-check_each) in
+    rw (seven_kept _ (checked_seven c.args.effects (sym t))) t

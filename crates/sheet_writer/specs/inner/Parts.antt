@@ -1,26 +1,19 @@
 -- The text of a sheet as the parts that are put one after another, and each of its effects.
 -- Assumes nothing.
-use Rattle.std.specs.Prelude.{List, [], ◌∷◌, ◌++◌, ℕ, ℤ, Float, Option, Some}
+use Rattle.std.specs.Prelude.{List, [], ◌∷◌, ◌++◌, ℕ, ℤ}
 use Rattle.text.specs.Text.{signed_parts}
 use Rattle.text.specs.Put.{field_parts}
 use Rattle.text.specs.Lines.{newline}
-use Rattle.refusal.specs.Said.{Told, gives, refused}
 use Rattle.column.specs.declared.Line.{Line}
 use Rattle.column.specs.declared.Column.{Column}
 use Rattle.column.specs.Column.{lines_of}
 use Rattle.sheet_lines.specs.Form.{member_keys, floor_keys, effect_keys}
 use Rattle.sheet_lines.specs.LineText.{line_numbers}
 use Rattle.sheet.specs.declared.Sheet.{Sheet}
-use Rattle.sheet_writer.specs.declared.Placed.{Placed}
 
 -- the sheet of a column and six effects
 abbrev pub sheet_from : Column → List ℤ → Sheet
 sheet_from c zs = record { column = c; effects = zs }
-
--- the effect at a place in whole newtons, or its refusal
-unfoldable pub placed_at : ℕ → Told Float ℤ → Told (Option Placed) ℤ
-placed_at place (gives z) = gives z
-placed_at place (refused n x) = refused n (Some (record { place = place; double = x }))
 
 -- the member's line, a floor line and all of them
 unfoldable pub member_parts : ℕ → List (List ℕ)

@@ -10,8 +10,8 @@ use Rattle.text.specs.Lines.{newline}
 use Rattle.column.specs.Line.{entries_of}
 use Rattle.column.specs.Column.{column_of, member_of}
 use Rattle.sheet_writer.specs.declared.SheetDoubles.{SheetDoubles}
-use Rattle.sheet_writer.specs.declared.Placed.{Placed}
-use Rattle.sheet_writer.specs.Saving.{saving}
+use Rattle.effects.specs.Check.{load_effect}
+use Rattle.sheet_writer.specs.Saving.{Placed, saving}
 
 -- so many newtons as a double, upwards with a minus sign, and so many halves
 abbrev pub whole : ℕ → Float
@@ -32,7 +32,7 @@ unfoldable pub puts : String → Told (Option Placed) (List ℕ)
 puts text = gives (map (λ b. cond (eqb b 124) newline b) (bytes_of text))
 
 abbrev pub refuses : ℕ → ℕ → Float → Told (Option Placed) (List ℕ)
-refuses number place x = refused number (Some (record { place = place; double = x }))
+refuses number place x = refused number (Some (load_effect place x))
 
 abbrev pub no_room : Told (Option Placed) (List ℕ)
 no_room = refused 12 None
