@@ -1,9 +1,9 @@
 -- What holds of every answer: the doubles keep their sums, the rows govern, and the first beyond the limit is named. Assumes nothing.
-use Rattle.std.proofs.Common.{◌≡◌, refl, ◌∙◌, ap, Bool, false, List, [], ◌∷◌, ℕ, zero, suc, ◌^◌, ◌≤◌, ◌<◌, le_trans, arith, lit≤, ℤ, nat_abs, Float, length, get_or, le-leb}
+use Rattle.std.proofs.Common.{◌≡◌, refl, ◌∙◌, ap, Bool, true, false, not, cond, List, [], ◌∷◌, zero, suc, ◌^◌, ◌≤◌, ◌<◌, le_trans, arith, lit≤, ℤ, nat_abs, Float, length, le-leb, leb-true}
 use mathlib.Core.Path.{subst⁻¹}
-use Rattle.std.specs.Prelude.{map}
+use Rattle.std.specs.Prelude.{map, Option, Some, None}
+use Rattle.std.specs.List.{find}
 use Rattle.effects.specs.declared.Load.{Load}
-use Rattle.effects.specs.declared.Load.TheVariants.{Dead}
 use Rattle.effects.specs.declared.PerLoad.{PerLoad}
 use Rattle.effects.specs.declared.LoadEffect.{LoadEffect}
 use Rattle.refusal.specs.Said.{Told, gives, refused}
@@ -41,21 +41,32 @@ pub rows_exact : (Back : Type 0) (xs : List ℤ) → Seven limit xs → NothingL
 unfolding governing NothingLost
 rows_exact Back xs X = (exact greater_order xs X, exact less_order xs X)
 
--- 9 and the load at an index, where the number of that load is the first beyond the limit
-module _ (n : PerLoad ℤ) where
-  pub first_beyond : (ls : List Load) (g : Governing) (i : ℕ) → i < length ls → ((k : ℕ) → k < i → nat_abs (of_load n (get_or ls k Dead)) ≤ limit)
-      → within (of_load n (get_or ls i Dead)) ≡ false → limited_from ls (map (of_load n) ls) g ≡ refused 9 (get_or ls i Dead)
-  unfolding limited_from
-  first_beyond [] g i h f e = absurd (omega arith)
-  first_beyond (l ∷ ls) g zero h f e = rw e refl
-  first_beyond (l ∷ ls) g (suc i) h f e =
-      rw (le-leb (nat_abs (of_load n l)) limit (f 0 (omega arith))) (first_beyond ls g i (omega arith) (λ k p. f (suc k) (omega arith)) e)
+-- a load whose number is beyond the limit
+abbrev pub beyond : PerLoad ℤ → Load → Bool
+beyond n l = not (within (of_load n l))
 
-  -- where the number of each load is within it, they all are
-  pub all_within : (ls : List Load) → ((k : ℕ) → k < length ls → nat_abs (of_load n (get_or ls k Dead)) ≤ limit) → EachAtMost limit (map (of_load n) ls)
-  all_within [] f i = omega arith
-  all_within (l ∷ ls) f zero = f 0 (omega arith)
-  all_within (l ∷ ls) f (suc i) = all_within ls (λ k p. f (suc k) (omega arith)) i
+-- 9 and the load that was found, or what governs where none was
+abbrev pub told_found : Option Load → Governing → Told Load Governing
+told_found (Some l) g = refused 9 l
+told_found None g = gives g
+
+-- what is told is of the first load beyond the limit
+pub limited_found : (n : PerLoad ℤ) (ls : List Load) (g : Governing) → limited_from ls (map (of_load n) ls) g ≡ told_found (find (beyond n) ls) g
+unfolding limited_from
+limited_found n [] g = refl
+limited_found n (l ∷ ls) g =
+    elim (within (of_load n l)) as (λ t. cond t (limited_from ls (map (of_load n) ls) g) (refused 9 l) ≡ told_found (cond (not t) (Some l) (find (beyond n) ls)) g)
+    [ true ↦ limited_found n ls g | false ↦ refl ]
+
+-- where there is none, they are all within it
+pub none_found : (n : PerLoad ℤ) (ls : List Load) → find (beyond n) ls ≡ None → EachAtMost limit (map (of_load n) ls)
+none_found n [] e i = omega arith
+none_found n (l ∷ ls) e i = go (within (of_load n l)) refl e (none_found n ls) i
+  where
+    go : (t : Bool) → within (of_load n l) ≡ t → cond (not t) (Some l) (find (beyond n) ls) ≡ None → (find (beyond n) ls ≡ None → EachAtMost limit (map (of_load n) ls)) → EachAtMost limit (map (of_load n) (l ∷ ls))
+    go true w h f zero = leb-true (nat_abs (of_load n l)) limit w
+    go true w h f (suc i) = f h i
+    go false w h f i = let never : Some l ≡ None = h in absurd (cc)
 
 -- none is beyond it
 none_beyond : (ls : List Load) (zs : List ℤ) (g : Governing) → EachAtMost limit zs → limited_from ls zs g ≡ gives g

@@ -1,9 +1,8 @@
 -- The search for the row that governs: its steps, and what it finds. Assumes nothing.
-use Rattle.std.proofs.Common.{◌≡◌, refl, sym, ◌∙◌, subst, Bool, true, false, true≢false, not, cond, ⊎_elim, List, [], ◌∷◌, ℕ, zero, suc, ◌+◌, ◌-◌, ◌≤◌, ◌<◌, eq-or-lt_of_le, le_of_suc-le-suc, not-suc-le-zero, add-one, arith, T, ℤ, pos, negsuc, nat_abs, length, get_or, drop, drop_of_length-le, drop-cons, le-ltb, ltb-true}
+use Rattle.std.proofs.Common.{◌≡◌, refl, sym, ◌∙◌, ap, subst, Bool, true, false, true≢false, not, cond, ⊎_elim, List, [], ◌∷◌, ℕ, zero, suc, ◌+◌, ◌-◌, ◌≤◌, ◌<◌, eq-or-lt_of_le, le_of_suc-le-suc, not-suc-le-zero, add-one, arith, T, ℤ, pos, negsuc, nat_abs, length, get_or, drop, drop_of_length-le, drop-cons, le-ltb, ltb-true}
 use lib.Signed.{lt_z, lt_z_no, <ℤ-≤ℤ_trans}
 use Rattle.effects.specs.inner.Sized.{EachAtMost}
-use Rattle.combination.specs.declared.search.Best.{Best}
-use Rattle.combination.specs.Governing.{greater, less, better, best_from, best}
+use Rattle.combination.specs.Governing.{greater, less, Best, better, best_from, best}
 use Rattle.combination.specs.theorems.Governs.{GovernsFirst, Governs}
 
 -- ---- a step of the search, and its end
@@ -25,16 +24,25 @@ module _ (beats : ℤ → ℤ → Bool) (ss : List ℤ) where
       go [] k = absurd (not-suc-le-zero k)
       go (s ∷ l) k = refl
 
+  -- the code begins before row 1, with its sum as the best so far
+  pub best_begin : 0 < length ss → best_from beats (record { row = 1; tenths = get_or ss 0 (pos 0) }) 1 (drop 0 ss) ≡ best beats ss
+  unfolding better
+  best_begin h =
+      let s = get_or ss 0 (pos 0) in
+      let first : Best = record { row = 1; tenths = s } in
+      let kept : cond (beats s s) first first ≡ first = elim (beats s s) as (λ t. cond t first first ≡ first) [ true ↦ refl | false ↦ refl ] in
+      best_step first 1 0 h ∙ (ap (λ (b : Best). best_from beats b 2 (drop 1 ss)) kept ∙ best_first h)
+
   -- a turn of the code's loop: s is the sum at the index, and t says whether it beats the best sum so far
-  pub best_turn : (i : ℕ) (b : Best) {b' : Best} {s : ℤ} {t : Bool} {end : Best} → i < length ss → s ≡ get_or ss i (pos 0) → t ≡ beats s b.tenths → b' ≡ cond t (record { row = i + 2; tenths = s }) b
-      → best_from beats b (i + 2) (drop i ss) ≡ end
-      → best_from beats b' (i + 1 + 2) (drop (i + 1) ss) ≡ end
+  pub best_turn : (i : ℕ) (b : Best) {b' : Best} {s : ℤ} {t : Bool} {end : Best} → i < length ss → s ≡ get_or ss i (pos 0) → t ≡ beats s b.tenths → b' ≡ cond t (record { row = i + 1; tenths = s }) b
+      → best_from beats b (i + 1) (drop i ss) ≡ end
+      → best_from beats b' (i + 1 + 1) (drop (i + 1) ss) ≡ end
   unfolding better
   best_turn i b {b'} {s} {t} h l k q e =
       let one : i + 1 ≡ suc i = add-one i in
-      let row : i + 1 + 2 ≡ suc (i + 2) = omega arith in
-      let c : b' ≡ better beats b (i + 2) (get_or ss i (pos 0)) = cc in
-      rw (row, one, c) (sym (best_step b (i + 2) i h) ∙ e)
+      let row : i + 1 + 1 ≡ suc (suc i) = omega arith in
+      let c : b' ≡ better beats b (suc i) (get_or ss i (pos 0)) = cc in
+      rw (row, one, c) (sym (best_step b (suc i) i h) ∙ (rw one at e))
 
 -- ---- less and greater are orders
 

@@ -1,5 +1,5 @@
 -- The sizes of products and sums of whole numbers, and the sum of a row. Assumes nothing.
-use Rattle.std.proofs.Common.{◌≡◌, refl, sym, subst, Bool, true, false, cond, List, [], ◌∷◌, ℕ, suc, ◌+◌, ◌-◌, ◌*◌, ◌≤◌, ◌<◌, le_refl, lt_of_le_of_lt, mul-le-mul, arith, T, ltb, ltb→lt, lit<, ℤ, pos, negsuc, nat_abs, ◌+ℤ◌, ◌*ℤ◌, length, get_or, drop, length-drop, drop_of_length-le, drop-cons, get_or-drop, w8, to_z, of_z}
+use Rattle.std.proofs.Common.{◌≡◌, refl, sym, subst, Bool, true, false, cond, ◌⊎◌, ⊎_elim, List, [], ◌∷◌, ℕ, suc, ◌+◌, ◌-◌, ◌*◌, ◌≤◌, ◌<◌, le_refl, lt_of_le_of_lt, mul-le-mul, arith, T, ltb, ltb→lt, lit<, ℤ, pos, negsuc, nat_abs, ◌+ℤ◌, ◌*ℤ◌, length, drop, length-drop, get_or-drop, w8, to_z, of_z}
 use lib.IntN.{sub_ℕ}
 use mir.ValLaws.{to_z-of_z}
 use Rattle.newtons.specs.Effect.{limit}
@@ -27,7 +27,7 @@ size_sub a b = go (ltb a b) (ltb→lt a b)
     go true h = let p = h tt in omega arith
     go false h = omega arith
 
-size_add : (a b : ℤ) → nat_abs (a +ℤ b) ≤ nat_abs a + nat_abs b
+pub size_add : (a b : ℤ) → nat_abs (a +ℤ b) ≤ nat_abs a + nat_abs b
 size_add (pos a) (pos b) = le_refl (a + b)
 size_add (pos a) (negsuc b) = size_sub a (suc b)
 size_add (negsuc a) (pos b) = let h = size_sub b (suc a) in omega arith
@@ -41,10 +41,6 @@ size_mul (negsuc a) (negsuc b) = refl
 
 pub size_product : (f x : ℤ) {p q : ℕ} → nat_abs f ≤ p → nat_abs x ≤ q → nat_abs (f *ℤ x) ≤ p * q
 size_product f x {p} {q} h k = subst (λ (n : ℕ). n ≤ p * q) (sym (size_mul f x)) (mul-le-mul h k)
-
--- with one product more
-pub size_sum : (a b : ℤ) (n : ℕ) → nat_abs a ≤ most_product * n → nat_abs b ≤ most_product → nat_abs (a +ℤ b) ≤ most_product * (n + 1)
-size_sum a b n h k = omega (arith, size_add a b)
 
 -- ---- the sum of a row
 
@@ -66,12 +62,9 @@ sum_small fs xs F X j =
           (λ i. subst (λ (z : ℤ). nat_abs z ≤ limit) (sym (get_or-drop j xs i (pos 0))) (X.each (j + i))),
     )
 
--- from an index on: the index's product and the rest
-pub sum_from : (j : ℕ) (fs xs : List ℤ) → j < length fs → j < length xs
-    → sum_of (drop j fs) (drop j xs) ≡ get_or fs j (pos 0) *ℤ get_or xs j (pos 0) +ℤ sum_of (drop (suc j) fs) (drop (suc j) xs)
+-- where there is no factor or no effect left
+pub sum_none : (fs xs : List ℤ) → (length fs ≡ 0) ⊎ (length xs ≡ 0) → sum_of fs xs ≡ pos 0
 unfolding sum_of
-sum_from j fs xs h k = rw (drop-cons fs j (pos 0) h, drop-cons xs j (pos 0) k)
-
-pub sum_end : (fs xs : List ℤ) → length fs ≡ 7 → sum_of (drop 7 fs) (drop 7 xs) ≡ pos 0
-unfolding sum_of
-sum_end fs xs h = rw (drop_of_length-le fs {i = 7} (omega arith))
+sum_none [] xs h = refl
+sum_none (f ∷ fs) [] h = refl
+sum_none (f ∷ fs) (x ∷ xs) h = absurd (⊎_elim (λ e. omega arith) (λ e. omega arith) h)

@@ -9,10 +9,9 @@ use Rattle.effects.specs.declared.LoadEffect.{LoadEffect}
 use Rattle.refusal.specs.Said.{Told, gives, refused}
 use Rattle.newtons.specs.Effect.{value_of, whole, within}
 use Rattle.effects.specs.Check.{load_effect, loads, of_load, checked_of}
-use Rattle.combination.specs.declared.search.Best.{Best}
 use Rattle.combination.specs.declared.GoverningRow.{GoverningRow}
 use Rattle.combination.specs.declared.Governing.{Governing}
-use Rattle.combination.specs.Governing.{greater, less, sums, best}
+use Rattle.combination.specs.Governing.{greater, less, Best, sums, best}
 
 -- 01, Effects and the 25 combinations: "Results are whole tenths of a newton and also go out as doubles"
 abbrev pub row_of : Best → GoverningRow

@@ -2,7 +2,6 @@
 -- Assumes nothing.
 use Rattle.std.specs.Prelude.{Bool, cond, List, [], ◌∷◌, map, ℕ, suc, ℤ, pos, ◌+ℤ◌, ◌*ℤ◌}
 use Rattle.std.specs.Int.Signed.{lt_z}
-use Rattle.combination.specs.declared.search.Best.{Best}
 use Rattle.combination.specs.Factors.{factors}
 
 -- 01, Effects and the 25 combinations: the sum of a row in tenths of a newton, each factor times its effect
@@ -22,6 +21,11 @@ greater a b = lt_z b a
 -- 01, Effects and the 25 combinations: "the least sum"; a sum beats another where it is less
 abbrev pub less : ℤ → ℤ → Bool
 less a b = lt_z a b
+
+-- 01, Effects and the 25 combinations: a row, 1 to 25, and its sum in tenths of a newton
+pub record Best : Type 0 where
+  pub row : ℕ
+  pub tenths : ℤ
 
 -- 01, Effects and the 25 combinations: "equal sums give the lowest row", so a later row must beat the best so far
 unfoldable pub better : (ℤ → ℤ → Bool) → Best → ℕ → ℤ → Best

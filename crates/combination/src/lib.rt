@@ -8,6 +8,7 @@ ghost use Rattle.combination.specs.Combine.{governed, with_double, combined_of, 
 
 use effects::{Effects, Load, LoadEffect, Newtons};
 use refusal::{Refusal, Refused};
+use search::Within;
 
 mod search;
 
@@ -45,15 +46,18 @@ pub struct Governing {
 pub fn govern(newtons: Newtons) -> Result<Governing, Refused<Load>>
     ensures { (told result ≡ governed (newtons_of newtons)) × NothingLost (told result) }
 {
-    for load in LOADS {
-        if !newtons::is_within(newtons.of(load)) {
-            return Err(Refused {
-                refusal: Refusal::EffectOutOfRange,
-                back: load,
-            });
-        }
+    match LOADS
+        .iter()
+        .find(|load| !newtons::is_within(newtons.of(**load)))
+    {
+        Some(load) => Err(Refused {
+            refusal: Refusal::EffectOutOfRange,
+            back: *load,
+        }),
+        None => Ok(search::governing_of(Within {
+            newtons: newtons.in_order(),
+        })),
     }
-    Ok(search::governing_of(newtons))
 }
 
 // What governs, a refusal with the effect as it came.

@@ -1,15 +1,13 @@
-// The 25 load combinations, and the search for the rows that govern. The effects are within the limit.
-ghost use Rattle.std.specs.Prelude.{◌≡◌, ◌≤◌, ◌<◌, ◌^◌, ℤ, Bool, nat_abs, pos, length, get_or};
+// The 25 load combinations, and the search for the rows that govern.
+ghost use Rattle.std.specs.Prelude.{◌≡◌, ◌<◌, ◌^◌, ℤ, Bool, pos, get_or};
 ghost use Rattle.newtons.specs.Effect.{limit};
-ghost use Rattle.effects.specs.Check.{newtons_of};
 ghost use Rattle.combination.specs.Factors.{factors};
 ghost use Rattle.combination.specs.Governing.{sum_of, sums, best};
 ghost use Rattle.combination.specs.inner.Sense.{Tests};
 ghost use Rattle.combination.specs.Combine.{row_of, governing};
-ghost use Rattle.effects.specs.inner.Sized.{Seven};
+ghost use Rattle.effects.specs.inner.Sized.{Sized, Seven};
 
 use crate::{Governing, GoverningRow};
-use effects::Newtons;
 
 // The factors of each row in tenths: D, L, Lr, S, R, W, E.
 const FACTORS: [[i8; 7]; 25] = [
@@ -40,11 +38,18 @@ const FACTORS: [[i8; 7]; 25] = [
     [9, 0, 0, 0, 0, 0, -10],
 ];
 
-// The best sum so far in tenths of a newton, and its row.
+// Seven effects in whole newtons, each within the limit.
 #[derive(Clone, Copy)]
-pub struct Best {
-    pub row: u64,
-    pub tenths: i64,
+pub struct Within {
+    pub newtons: [i64; 7],
+    pub ghost seven: { Seven limit newtons },
+}
+
+// The sums of the 25 rows in tenths of a newton, none too large for a double.
+#[derive(Drop)]
+struct Sums {
+    tenths: [i64; 25],
+    ghost held: { Sized 25 (2 ^ 53) tenths },
 }
 
 // The table, read once for all rows.
@@ -55,108 +60,91 @@ fn factors_of() -> [[i8; 7]; 25]
 }
 
 // The sum of a row, each factor times its effect.
-fn sum_of(factors: [i8; 7], newtons: [i64; 7]) -> i64
-    requires seven_factors { Seven 16 factors }
-    requires seven_newtons { Seven limit newtons }
-    ensures { result ≡ sum_of factors newtons }
+fn sum_of(factors: [i8; 7], effects: Within) -> i64
+    requires { Seven 16 factors }
+    ensures { result ≡ sum_of factors effects.newtons }
 {
     let mut sum = 0i64;
-    for (j, factor) in factors.iter().enumerate() {
-        sum += i64::from(*factor) * newtons[j];
+    for (factor, effect) in factors.iter().zip(effects.newtons.iter()) {
+        sum += i64::from(*factor) * *effect;
     }
     sum
 }
 
 // The sum of the row at an index of the table.
-fn sum_at(table: [[i8; 7]; 25], i: usize, newtons: [i64; 7]) -> i64
-    requires table_value { table ≡ factors }
-    requires i_bound { i < 25 }
-    requires seven { Seven limit newtons }
-    ensures { result ≡ get_or (sums newtons) i (pos 0) }
+fn sum_at(table: [[i8; 7]; 25], row: usize, effects: Within) -> i64
+    requires table { table ≡ factors }
+    requires row { row < 25 }
+    ensures { result ≡ get_or (sums effects.newtons) row (pos 0) }
 {
-    sum_of(table[i], newtons)
+    sum_of(table[row], effects)
 }
 
 // The sums of the 25 rows. Each is read at a literal index, so that the compiled code has its factors
 // as literals and no term for a 0.
-fn sums_of(newtons: [i64; 7]) -> [i64; 25]
-    requires { Seven limit newtons }
-    ensures { result ≡ sums newtons }
+fn sums_of(effects: Within) -> [i64; 25]
+    ensures { result ≡ sums effects.newtons }
 {
     let table = factors_of();
     [
-        sum_at(table, 0, newtons),
-        sum_at(table, 1, newtons),
-        sum_at(table, 2, newtons),
-        sum_at(table, 3, newtons),
-        sum_at(table, 4, newtons),
-        sum_at(table, 5, newtons),
-        sum_at(table, 6, newtons),
-        sum_at(table, 7, newtons),
-        sum_at(table, 8, newtons),
-        sum_at(table, 9, newtons),
-        sum_at(table, 10, newtons),
-        sum_at(table, 11, newtons),
-        sum_at(table, 12, newtons),
-        sum_at(table, 13, newtons),
-        sum_at(table, 14, newtons),
-        sum_at(table, 15, newtons),
-        sum_at(table, 16, newtons),
-        sum_at(table, 17, newtons),
-        sum_at(table, 18, newtons),
-        sum_at(table, 19, newtons),
-        sum_at(table, 20, newtons),
-        sum_at(table, 21, newtons),
-        sum_at(table, 22, newtons),
-        sum_at(table, 23, newtons),
-        sum_at(table, 24, newtons),
+        sum_at(table, 0, effects),
+        sum_at(table, 1, effects),
+        sum_at(table, 2, effects),
+        sum_at(table, 3, effects),
+        sum_at(table, 4, effects),
+        sum_at(table, 5, effects),
+        sum_at(table, 6, effects),
+        sum_at(table, 7, effects),
+        sum_at(table, 8, effects),
+        sum_at(table, 9, effects),
+        sum_at(table, 10, effects),
+        sum_at(table, 11, effects),
+        sum_at(table, 12, effects),
+        sum_at(table, 13, effects),
+        sum_at(table, 14, effects),
+        sum_at(table, 15, effects),
+        sum_at(table, 16, effects),
+        sum_at(table, 17, effects),
+        sum_at(table, 18, effects),
+        sum_at(table, 19, effects),
+        sum_at(table, 20, effects),
+        sum_at(table, 21, effects),
+        sum_at(table, 22, effects),
+        sum_at(table, 23, effects),
+        sum_at(table, 24, effects),
     ]
 }
 
-// The row whose sum beats all others; where sums are equal, the lowest row. Over a slice it is short
-// enough to be compiled into each call, where the test is known.
-fn best_of<F: Fn(i64, i64) -> bool>(beats: F, sums: &[i64]) -> Best
-    requires some { 0 < length sums.now }
-    requires callable { F.IsAlwaysCallable beats }
-    ensures { (test : ℤ → ℤ → Bool) → Tests (F.post beats) test → result ≡ best test sums.now }
+// The row whose sum beats all others, with its sum as a double too; where sums are equal, the lowest row.
+fn governing_row<F: Fn(i64, i64) -> bool>(beats: F, sums: &Sums) -> GoverningRow
+    requires { F.IsAlwaysCallable beats }
+    ensures { (test : ℤ → ℤ → Bool) → Tests (F.post beats) test → result ≡ row_of (best test sums.now.tenths) }
 {
-    let mut found = Best {
-        row: 1,
-        tenths: sums[0],
-    };
-    let others = &sums[1..];
-    for (i, sum) in others.iter().enumerate() {
-        if beats(*sum, found.tenths) {
-            found = Best {
-                row: i as u64 + 2,
-                tenths: *sum,
-            };
+    let mut row = 1u64;
+    let mut tenths = sums.tenths[0];
+    for (i, sum) in sums.tenths.iter().enumerate() {
+        if beats(*sum, tenths) {
+            row = i as u64 + 1;
+            tenths = *sum;
         }
     }
-    found
-}
-
-// The row with its sum as a double too.
-fn row_of(best: Best) -> GoverningRow
-    requires { nat_abs best.tenths ≤ 2 ^ 53 }
-    ensures { result ≡ row_of best }
-{
     GoverningRow {
-        row: best.row,
-        tenths: best.tenths,
-        double: best.tenths as f64,
+        row,
+        tenths,
+        double: tenths as f64,
     }
 }
 
 // The rows with the greatest and the least sum; compiled into its callers, as `govern` is.
 #[inline(always)]
-pub fn governing_of(newtons: Newtons) -> Governing
-    requires { Seven limit (newtons_of newtons) }
-    ensures { result ≡ governing (newtons_of newtons) }
+pub fn governing_of(effects: Within) -> Governing
+    ensures { result ≡ governing effects.newtons }
 {
-    let sums = sums_of(newtons.in_order());
+    let sums = Sums {
+        tenths: sums_of(effects),
+    };
     Governing {
-        greatest: row_of(best_of(|a, b| a > b, &sums)),
-        least: row_of(best_of(|a, b| a < b, &sums)),
+        greatest: governing_row(|a, b| a > b, &sums),
+        least: governing_row(|a, b| a < b, &sums),
     }
 }

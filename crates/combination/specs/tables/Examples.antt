@@ -4,7 +4,7 @@ use Rattle.std.specs.Prelude.{◌≡◌, List, [], ◌∷◌, ℤ, pos}
 use Rattle.effects.specs.declared.PerLoad.{PerLoad}
 use Rattle.refusal.specs.Said.{gives}
 use Rattle.effects.specs.theorems.Doubles.{doubles_of}
-use Rattle.combination.specs.declared.search.Best.{Best}
+use Rattle.combination.specs.Governing.{Best}
 use Rattle.combination.specs.Combine.{row_of, combined_of}
 
 -- a case: the effects, and the rows with the greatest and the least sum

@@ -8,8 +8,8 @@ use Rattle.combination.proofs.search.sums_of.Goals as goal
 use Rattle.combination.proofs.search.sums_of.Goals.{After-factors_of-table, Start}
 
 -- what it gives, read back from its bits
-given : (c : Start) (i : ℕ) {sum : ℤ} → sum ≡ get_or (sums c.args.newtons) i (pos 0) → to_z w64 (of_z w64 sum) ≡ get_or (sums c.args.newtons) i (pos 0)
-given c i e = ap (λ (z : ℤ). to_z w64 (of_z w64 z)) e ∙ kept (sums_small c.args.newtons c.requires i) (lit< tt)
+given : (c : Start) (i : ℕ) {sum : ℤ} → sum ≡ get_or (sums c.args.effects.newtons) i (pos 0) → to_z w64 (of_z w64 sum) ≡ get_or (sums c.args.effects.newtons) i (pos 0)
+given c i e = ap (λ (z : ℤ). to_z w64 (of_z w64 z)) e ∙ kept (sums_small c.args.effects.newtons c.args.effects.seven i) (lit< tt)
 
 pub returns : goal.returns
 unfolding sums factors combinations
