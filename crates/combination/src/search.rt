@@ -81,7 +81,8 @@ fn sum_at(table: [[i8; 7]; 25], row: usize, effects: Within) -> i64
 }
 
 // The sums of the 25 rows. Each is read at a literal index, so that the compiled code has its factors
-// as literals and no term for a 0.
+// as literals and no term for a 0: combining takes 0.68 to 0.74 of plain Rust, where a loop over the rows
+// takes 1.15 to 1.17, and the array's `map` 1.7 to 2.3.
 fn sums_of(effects: Within) -> [i64; 25]
     ensures { result ≡ sums effects.newtons }
 {

@@ -1,45 +1,24 @@
 // Reads doubles and whole numbers from the hexadecimal digits of their bits, most significant first.
 ghost use Rattle.std.specs.Prelude.{◌≡◌, length};
-ghost use Rattle.std.specs.Float.{binary64};
-ghost use Rattle.std.specs.Float.Ieee.{nan_bits};
 
 use effects::PerLoad;
+use std::num::f64_from_bits_with_nan;
+use std::str;
 
-// The value of a digit.
-fn digit(byte: u8) -> Option<u8> {
-    match byte {
-        b'0'..=b'9' => Some(byte - b'0'),
-        b'a'..=b'f' => Some(byte - b'a' + 10),
-        _ => None,
-    }
-}
-
-// The bits with these digits.
+// The bits with these digits; a sign and capitals, which `from_str_radix` takes, are none of them.
 fn bits_from(digits: &[u8]) -> Option<u64> {
-    let mut bits = 0u64;
-    for byte in digits {
-        bits = bits << 4 | u64::from(digit(*byte)?);
+    if !digits
+        .iter()
+        .all(|byte| matches!(*byte, b'0'..=b'9' | b'a'..=b'f'))
+    {
+        return None;
     }
-    Some(bits)
-}
-
-// Whether some bits are those of a NaN.
-fn is_nan(bits: u64) -> bool
-    ensures { result ≡ nan_bits binary64 bits }
-{
-    if bits % 0x8000_0000_0000_0000 / 0x10_0000_0000_0000 != 2047 {
-        return false;
-    }
-    bits % 0x10_0000_0000_0000 != 0
+    u64::from_str_radix(str::from_utf8(digits).ok()?, 16).ok()
 }
 
 // The double with these digits; there is one NaN here for all the patterns of NaN.
 pub fn double_from(digits: &[u8]) -> Option<f64> {
-    let bits = bits_from(digits)?;
-    if is_nan(bits) {
-        return Some(f64::NAN);
-    }
-    Some(f64::from_bits(bits))
+    Some(f64_from_bits_with_nan(bits_from(digits)?))
 }
 
 // The whole number with these digits, in two's complement.
