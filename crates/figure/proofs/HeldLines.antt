@@ -3,6 +3,9 @@
 use Rattle.std.proofs.Common.{◌≡◌, refl, sym, ◌∙◌, ap, arith, ℕ, zero, suc, ◌+◌, ◌≤◌, ◌<◌, Bool, cond, leb, List, [], ◌∷◌, ◌++◌, map, length, take, drop, get_or, sum_by, length-take, length-drop, le_trans, leb-true, le-leb}
 use Rattle.std.specs.List.{All as Each}
 use Rattle.std.specs.List.Sorted.{IsPartitionedBy}
+use Rattle.std.proofs.Math.Logic.{∥∥₁_elim}
+use Rattle.std.proofs.Math.Seq.{take-append_seam}
+use Rattle.std.proofs.Props.{props}
 use Rattle.std.proofs.lemmas.List.{take-append-drop, map-append, take_more}
 use Rattle.std.proofs.lemmas.List.Elements.{All-take, All-drop}
 use Rattle.std.proofs.lemmas.List.Sums.{sum_by-cons, sum_by-le, sum_by_more}
@@ -12,13 +15,14 @@ use Rattle.lists.proofs.Lists.{all_first, all_rest}
 use Rattle.column.specs.declared.Line.{Line}
 use Rattle.column.specs.Line.{unpacked}
 use Rattle.column.specs.inner.Sound.{InLimits, line_at}
+use Rattle.figure.specs.declared.lines.Lines.{Lines}
 use Rattle.figure.specs.declared.shares.Shares.{Shares}
 use Rattle.figure.specs.Carried.{formula_lines, area_of, is_formula_line}
-use Rattle.figure.specs.inner.Totals.{formula_area, Lined, areas, figures, NotAbove, Ordered}
+use Rattle.figure.specs.inner.Totals.{formula_area, Lined, areas, figures, NotAbove, Ordered, empty, first}
 use Rattle.figure.specs.inner.Shared.{figure_by}
 use Rattle.figure.proofs.Carried.{area_total}
 use Rattle.figure.proofs.Most.{line_most}
-use Rattle.figure.proofs.Order.{ordered_first, ordered_rest}
+use Rattle.figure.proofs.Order.{ordered_first, ordered_rest, ordered_front, ordered_back}
 
 -- what holds of each line, by its place and line by line
 pub each_of : {P : Line → Type 0} (ns : List ℕ) → All P (map unpacked ns) → Each (λ n. P (unpacked n)) ns
@@ -42,7 +46,7 @@ next_line ns i h = ap (map unpacked) (take_more ns i 0 h) ∙ map-append unpacke
 pub lined_take : (k : ℕ) (ns : List ℕ) → Lined ns → Lined (take k ns)
 lined_take k ns h = (omega (arith, h.0, length-take k ns), All-take (λ n. InLimits (unpacked n)) k ns h.1)
 
-pub lined_drop : (k : ℕ) (ns : List ℕ) → Lined ns → Lined (drop k ns)
+lined_drop : (k : ℕ) (ns : List ℕ) → Lined ns → Lined (drop k ns)
 lined_drop k ns h = (omega (arith, h.0, length-drop k ns), All-drop (λ n. InLimits (unpacked n)) k ns h.1)
 
 -- lines in order go down, so a test of the floor parts them
@@ -55,6 +59,41 @@ in_order (n ∷ ns) o (suc i) (suc j) d h q = in_order ns (ordered_rest o) i j d
 
 pub parted : (f : ℕ) (ns : List ℕ) → Ordered (map unpacked ns) → IsPartitionedBy (λ n. leb (unpacked n).floor f) ns
 parted f ns o i j d h q e = le-leb _ f (le_trans (in_order ns o i j d h q) (leb-true _ f e))
+
+ordered_from : (ns : List ℕ) → ((i j d : ℕ) → i ≤ j → j < length ns → (unpacked (get_or ns i d)).floor ≤ (unpacked (get_or ns j d)).floor)
+    → Ordered (map unpacked ns)
+ordered_from [] h = empty
+ordered_from (n ∷ ns) h =
+    first (all_of {P = NotAbove (unpacked n).floor} ns (λ k d q. h 0 (suc k) d (omega arith) (omega arith)))
+    (ordered_from ns (λ i j d p q. h (suc i) (suc j) d (omega arith) (omega arith)))
+
+-- ---- lines as they are handed on
+
+pub lines_lined : (l : Lines) → Lined l.numbers.now
+lines_lined l = ∥∥₁_elim l.lined (Prim.hlevel props) (λ h. h)
+
+pub lines_ordered : (l : Lines) → Ordered (map unpacked l.numbers.now)
+lines_ordered l =
+    ordered_from l.numbers.now (λ i j d p q. ∥∥₁_elim l.ordered (Prim.hlevel props) (λ o. in_order l.numbers.now o i j d p q))
+
+pub line_within : (l : Lines) (i d : ℕ) → i < length l.numbers.now → InLimits (unpacked (get_or l.numbers.now i d))
+line_within l i d h = (lines_lined l).1 i d h
+
+-- the first of them, and the last
+pub ordered_take : (k : ℕ) (ns : List ℕ) → Ordered (map unpacked ns) → Ordered (map unpacked (take k ns))
+ordered_take k ns o = ordered_front (map unpacked (take k ns)) (map unpacked (drop k ns)) (rw (split_at k ns) at o)
+
+pub ordered_drop : (k : ℕ) (ns : List ℕ) → Ordered (map unpacked ns) → Ordered (map unpacked (drop k ns))
+ordered_drop k ns o = ordered_back (map unpacked (take k ns)) (rw (split_at k ns) at o)
+
+-- and those that stand together from a place on
+pub lined_run : (l : Lines) (k : ℕ) (run back : List ℕ) → drop k l.numbers.now ≡ run ++ back → Lined run
+lined_run l k run back is =
+    rw (is, take-append_seam run back) at (lined_take (length run) (drop k l.numbers.now) (lined_drop k l.numbers.now (lines_lined l)))
+
+pub ordered_run : (l : Lines) (k : ℕ) (run back : List ℕ) → drop k l.numbers.now ≡ run ++ back → Ordered (map unpacked run)
+ordered_run l k run back is =
+    rw (is, take-append_seam run back) at (ordered_take (length run) (drop k l.numbers.now) (ordered_drop k l.numbers.now (lines_ordered l)))
 
 -- ---- sums
 
@@ -82,14 +121,16 @@ pub figures_most : (s : Shares) (ns : List ℕ) → Lined ns → figures s ns �
 figures_most s ns h = omega (arith, h.0, sum_by-le (λ n. figure_by s (unpacked n)) 10000000000 ns (λ k d q. line_most s.carried.floors s.carried.influence _ (h.1 k d q)))
 
 -- one line more
-pub areas_more : (ns : List ℕ) (i : ℕ) → Lined ns → i < length ns
-    → (areas (take (i + 1) ns) ≡ areas (take i ns) + formula_area (line_at ns i)) × (areas (take i ns) + formula_area (line_at ns i) ≤ 51200000)
-areas_more ns i h k =
+pub areas_more : (l : Lines) (i : ℕ) → i < length l.numbers.now
+    → (areas (take (i + 1) l.numbers.now) ≡ areas (take i l.numbers.now) + formula_area (line_at l.numbers.now i)) × (areas (take i l.numbers.now) + formula_area (line_at l.numbers.now i) ≤ 51200000)
+areas_more l i k =
+    let ns = l.numbers.now in
     let more = sum_by_more (λ n. formula_area (unpacked n)) ns i 0 k in
-    (more, omega (arith, more, areas_most (take (i + 1) ns) (lined_take (i + 1) ns h)))
+    (more, omega (arith, more, areas_most (take (i + 1) ns) (lined_take (i + 1) ns (lines_lined l))))
 
-pub figures_more : (s : Shares) (ns : List ℕ) (i : ℕ) → Lined ns → i < length ns
-    → (figures s (take (i + 1) ns) ≡ figures s (take i ns) + figure_by s (line_at ns i)) × (figures s (take i ns) + figure_by s (line_at ns i) ≤ 2560000000000)
-figures_more s ns i h k =
+pub figures_more : (s : Shares) (l : Lines) (i : ℕ) → i < length l.numbers.now
+    → (figures s (take (i + 1) l.numbers.now) ≡ figures s (take i l.numbers.now) + figure_by s (line_at l.numbers.now i)) × (figures s (take i l.numbers.now) + figure_by s (line_at l.numbers.now i) ≤ 2560000000000)
+figures_more s l i k =
+    let ns = l.numbers.now in
     let more = sum_by_more (λ n. figure_by s (unpacked n)) ns i 0 k in
-    (more, omega (arith, more, figures_most s (take (i + 1) ns) (lined_take (i + 1) ns h)))
+    (more, omega (arith, more, figures_most s (take (i + 1) ns) (lined_take (i + 1) ns (lines_lined l))))

@@ -3,8 +3,8 @@
 use Rattle.std.proofs.Common.{◌≡◌, refl, sym, ◌∙◌, ap, arith, ℕ, zero, suc, ◌+◌, ◌-◌, ◌≤◌, ◌<◌, true, false, eqb, List, [], ◌∷◌, ◌++◌, Option, Some, map, Bool, add-one, length, take, drop, get_or, length-append, append_assoc, append-nil, add-zero, eqb-true}
 use Rattle.std.proofs.lemmas.Bool.{eqb-false}
 use Rattle.std.specs.List.{IsChunkByPrefix}
-use Rattle.std.proofs.lemmas.List.{map-append, take-append-drop, drop-drop, get_or-drop, get_or_default, get_or_append_left, get_or-append-add}
-use Rattle.std.proofs.Math.Seq.{length-take-le, take-append_seam, drop-append_seam}
+use Rattle.std.proofs.lemmas.List.{map-append, drop-drop, get_or-drop, get_or_default, get_or_append_left, get_or-append-add}
+use Rattle.std.proofs.Math.Seq.{take-append_seam, drop-append_seam}
 use Rattle.std.proofs.lemmas.List.Sums.{sum_by-append}
 use Rattle.lists.specs.Lists.{All, none, keep, total}
 use Rattle.lists.proofs.Lists.{all_so, all_rest, all_front, all_append}
@@ -15,7 +15,7 @@ use Rattle.column.specs.declared.Column.{Column}
 use Rattle.column.specs.Line.{unpacked}
 use Rattle.column.specs.Column.{lines_of, Reached}
 use Rattle.column.specs.inner.Sound.{InLimits, line_at}
-use Rattle.figure.specs.declared.shares.Shares.{Shares}
+use Rattle.figure.specs.declared.lines.Lines.{Lines}
 use Rattle.figure.specs.declared.Working.{Working}
 use Rattle.figure.specs.declared.descent.Descent.{Descent}
 use Rattle.figure.specs.Carried.{formula_lines, has_floor, floors_of, area_of, influence_from, influence_of}
@@ -23,13 +23,12 @@ use Rattle.figure.specs.Figure.{figure_of}
 use Rattle.figure.specs.Asked.{working_of, asked_of, asked}
 use Rattle.figure.specs.Lowest.{lowest_figure}
 use Rattle.figure.specs.Workings.{working_said, workings_of}
-use Rattle.figure.specs.inner.Totals.{formula_area, Lined, areas, figures, At, DownTo, Below, Ordered}
+use Rattle.figure.specs.inner.Totals.{formula_area, areas, At, DownTo, Below, Ordered}
 use Rattle.figure.specs.inner.Shared.{SharesOf}
-use Rattle.figure.specs.inner.Descent.{RunAt, working_put, Descended, NextOf}
+use Rattle.figure.specs.inner.Descent.{left, RunAt, working_put, Descended, NextOf}
 use Rattle.figure.proofs.Carried.{Other, has_none, has_at, floors_run, carried_front}
-use Rattle.figure.proofs.Order.{ordered_back}
 use Rattle.figure.proofs.Lowest.{lowest_all}
-use Rattle.figure.proofs.HeldLines.{all_of, each_of, in_order, split_at, lined_drop, areas_total, figures_total}
+use Rattle.figure.proofs.HeldLines.{all_of, each_of, in_order, lines_lined, lines_ordered, ordered_drop, areas_total, figures_total}
 use Rattle.figure.proofs.Workings.{passed_to, passed_over, passed_put, passed_all}
 
 -- ---- the lines of one floor, as neighbours show it
@@ -60,67 +59,39 @@ module _ (rest run back : List ℕ) (is : rest ≡ run ++ back) (some : 0 < leng
       let end = ap (λ (m : ℕ). (unpacked m).floor) here in
       omega (arith, new, down, further, first, end)
 
-pub run_at : (ns : List ℕ) (first : ℕ) (rest run back : List ℕ) → Ordered (map unpacked ns) → rest ≡ drop first ns → rest ≡ run ++ back → 0 < length run
-    → IsChunkByPrefix same_floor rest (length run) → RunAt ns first run
-run_at ns first rest run back o here is some cut =
-    let order : Ordered (map unpacked rest) = rw here (ordered_back (map unpacked (take first ns)) (rw (split_at first ns) at o)) in
+pub run_at : (l : Lines) (k : ℕ) (rest run back : List ℕ) → rest ≡ drop k l.numbers.now → rest ≡ run ++ back → 0 < length run
+    → IsChunkByPrefix same_floor rest (length run) → RunAt (drop k l.numbers.now) run
+run_at l k rest run back here is some cut =
+    let o : Ordered (map unpacked rest) = rw here (ordered_drop k l.numbers.now (lines_ordered l)) in
     record {
       rest = back;
       is = sym here ∙ is;
       some = some;
       same = all_of {P = At (line_at run 0).floor} run (λ k d h. floor_of_run rest run back is some cut k d h);
-      below = all_of {P = Below (line_at run 0).floor} back (λ j d h. back_below rest run back is some cut order j d h);
+      below = all_of {P = Below (line_at run 0).floor} back (λ j d h. back_below rest run back is some cut o j d h);
     }
 
 -- what is left after them
-pub rest_after : (ns : List ℕ) (first : ℕ) (run back : List ℕ) → drop first ns ≡ run ++ back → drop (first + length run) ns ≡ back
-rest_after ns first run back e = sym (drop-drop (length run) first ns) ∙ (ap (drop (length run)) e ∙ drop-append_seam run back)
+pub rest_after : (ns front run back : List ℕ) → drop (length front) ns ≡ run ++ back → drop (length (front ++ run)) ns ≡ back
+rest_after ns front run back e =
+    rw (length-append front run) (sym (drop-drop (length run) (length front) ns) ∙ (ap (drop (length run)) e ∙ drop-append_seam run back))
 
 -- ---- the walk
 
 -- it begins above the first line
-pub descended_top : (m : Member) (ns : List ℕ) (s : Shares) → between 1 12 m.code ≡ true → Lined ns → Ordered (map unpacked ns) → SharesOf 0 (influence_from m 0) s
-    → Descended m ns (record { lines = 0; floor = 0; area = record { 0 = 0 }; shares = s; figure = 0 })
+pub descended_top : (m : Member) (l : Lines) (d : Descent) → between 1 12 m.code ≡ true → d.carried.numbers.now ≡ [] → d.floor ≡ 0 → SharesOf 0 (influence_from m 0) d.shares
+    → Descended m l.numbers.now d
 unfolding floors_of influence_of area_of formula_lines keep total
-descended_top m ns s code ok o e =
+descended_top m l d code top floor e =
     record {
       code = code;
-      lined = ok;
-      ordered = o;
-      few = omega arith;
-      floor_most = omega arith;
-      above = none;
-      below = all_so {P = InLimits} {Q = Below 0} (λ l h. h.floor.0) (all_of {P = InLimits} ns ok.1);
+      first = rw top;
+      floor_most = omega (arith, floor);
+      down = rw top none;
+      below = rw (top, floor) (all_so {P = InLimits} {Q = Below 0} (λ l h. h.floor.0) (all_of {P = InLimits} l.numbers.now (lines_lined l).1));
       floors_most = omega (arith, e.0);
-      shares = e;
-      area = refl;
-      figure = refl;
+      shares = rw top e;
     }
-
--- the lines to before the new ones, the new ones, and those after them
-module _ {ns : List ℕ} {first : ℕ} {run : List ℕ} (few : first ≤ length ns) (r : RunAt ns first run) where
-  size : length (take first ns) ≡ first
-  size = length-take-le first ns few
-
-  whole : (take first ns ++ run) ++ r.rest ≡ ns
-  whole = append_assoc (take first ns) run r.rest ∙ (ap (λ (l : List ℕ). take first ns ++ l) (sym r.is) ∙ take-append-drop first ns)
-
-  seam : length (take first ns ++ run) ≡ first + length run
-  seam = length-append (take first ns) run ∙ ap (λ (n : ℕ). n + length run) size
-
-  pub run_inside : first + length run ≤ length ns
-  run_inside = omega (arith, ap length whole, length-append (take first ns ++ run) r.rest, seam)
-
-  pub run_front : take (first + length run) ns ≡ take first ns ++ run
-  run_front = ap (take (first + length run)) (sym whole) ∙ (ap (λ (n : ℕ). take n ((take first ns ++ run) ++ r.rest)) (sym seam) ∙ take-append_seam (take first ns ++ run) r.rest)
-
-  pub run_rest : drop (first + length run) ns ≡ r.rest
-  run_rest = rest_after ns first run r.rest r.is
-
-  -- the new lines are lines of the column
-  pub run_lined : Lined ns → Lined run
-  run_lined ok =
-      (omega (arith, ok.0, run_inside), each_of run (all_front (map unpacked run) (map unpacked r.rest) (rw (r.is, map-append unpacked run r.rest) at (all_of {P = InLimits} (drop first ns) (lined_drop first ns ok).1))))
 
 -- they are one floor more where no line before them has it
 floors_with : (ls : List Line) (run : List ℕ) → 0 < length run → All (Other (line_at run 0).floor) ls → All (At (line_at run 0).floor) (map unpacked run)
@@ -129,95 +100,100 @@ floors_with ls [] h o a = absurd (omega arith)
 floors_with ls (n ∷ run) h o a = floors_run (unpacked n).floor o (unpacked n) refl (all_rest a)
 
 -- what is carried where the lines of the next floor end
-module _ {m : Member} {ns : List ℕ} {d : Descent} {run : List ℕ} (h : Descended m ns d) (r : RunAt ns d.lines run) where
+module _ {m : Member} {ns : List ℕ} {d : Descent} {run : List ℕ} (h : Descended m ns d) (r : RunAt (left ns d.carried) run) where
   abbrev line : Line
   line = line_at run 0
 
-  abbrev front : List Line
-  front = map unpacked (take d.lines ns)
+  -- the lines above, the new ones, and those after them
+  whole : ns ≡ (d.carried.numbers.now ++ run) ++ r.rest
+  whole = h.first ∙ (ap (λ (l : List ℕ). d.carried.numbers.now ++ l) r.is ∙ sym (append_assoc d.carried.numbers.now run r.rest))
 
-  both : map unpacked (take (d.lines + length run) ns) ≡ front ++ map unpacked run
-  both = ap (map unpacked) (run_front h.few r) ∙ map-append unpacked (take d.lines ns) run
+  pub run_inside : length d.carried.numbers.now + length run ≤ length ns
+  run_inside = omega (arith, ap length whole, length-append (d.carried.numbers.now ++ run) r.rest, length-append d.carried.numbers.now run)
+
+  pub run_front : take (length d.carried.numbers.now + length run) ns ≡ d.carried.numbers.now ++ run
+  run_front = rw (← length-append d.carried.numbers.now run) (ap (take (length (d.carried.numbers.now ++ run))) whole ∙ take-append_seam (d.carried.numbers.now ++ run) r.rest)
+
+  run_rest : (front : Lines) → front.numbers.now ≡ d.carried.numbers.now ++ run → left ns front ≡ r.rest
+  run_rest front e = rw e (rest_after ns d.carried.numbers.now run r.rest r.is)
+
+  both : map unpacked (d.carried.numbers.now ++ run) ≡ map unpacked d.carried.numbers.now ++ map unpacked run
+  both = map-append unpacked d.carried.numbers.now run
 
   lower : d.floor < line.floor
   lower = each_of {P = Below d.floor} run (all_front (map unpacked run) (map unpacked r.rest) (rw (r.is, map-append unpacked run r.rest) at h.below)) 0 0 r.some
 
-  floors : floors_of (map unpacked (take (d.lines + length run) ns)) ≡ d.shares.carried.floors + 1
-  floors = rw (both, h.shares.0) (floors_with front run r.some (all_so {P = DownTo d.floor} {Q = Other line.floor} (λ l q e. omega (arith, lower)) h.above) r.same)
+  floors : floors_of (map unpacked (d.carried.numbers.now ++ run)) ≡ d.shares.carried.floors + 1
+  floors =
+      rw (both, h.shares.0) (floors_with (map unpacked d.carried.numbers.now) run r.some (all_so {P = DownTo d.floor} {Q = Other line.floor} (λ l q e. omega (arith, lower)) h.down) r.same)
 
   -- their formula lines' area is that above and that of the new ones
-  pub run_areas : areas (take (d.lines + length run) ns) ≡ d.area.0 + areas run
-  run_areas = rw (run_front h.few r, h.area) (sum_by-append (λ k. formula_area (unpacked k)) (take d.lines ns) run)
+  pub run_areas : areas (d.carried.numbers.now ++ run) ≡ d.area.0 + areas run
+  run_areas = rw d.area_is (sum_by-append (λ k. formula_area (unpacked k)) d.carried.numbers.now run)
 
-  pub next_of : (n : Descent) → n.lines ≡ d.lines + length run → n.floor ≡ line.floor → n.area.0 ≡ d.area.0 + areas run
-      → SharesOf (d.shares.carried.floors + 1) (influence_from m n.area.0) n.shares
-      → n.figure ≡ figures n.shares (take (d.lines + length run) ns) → NextOf m ns d run n
+  pub next_of : (n : Descent) → InLimits line → n.carried.numbers.now ≡ d.carried.numbers.now ++ run → n.floor ≡ line.floor
+      → SharesOf (d.shares.carried.floors + 1) (influence_from m n.area.0) n.shares → NextOf m ns d run n
   unfolding influence_of
-  next_of n lines floor area shares figure =
-      let areas_are : n.area.0 ≡ areas (take n.lines ns) = rw (lines, area) (sym run_areas) in
+  next_of n within is floor shares =
       record {
         descended =
             record {
               code = h.code;
-              lined = h.lined;
-              ordered = h.ordered;
-              few = rw lines (run_inside h.few r);
-              floor_most = rw floor (each_of {P = InLimits} run (all_of {P = InLimits} run (run_lined h.few r h.lined).1) 0 0 r.some).floor.1;
-              above = rw (lines, floor, both) (all_append (all_so {P = DownTo d.floor} {Q = DownTo line.floor} (λ l q. omega (arith, lower)) h.above) (all_so {P = At line.floor} {Q = DownTo line.floor} (λ l q. omega (arith, q)) r.same));
-              below = rw (lines, floor, run_rest h.few r) r.below;
-              floors_most = omega (arith, shares.0, h.floors_most, lines, r.some);
-              shares = (shares.0 ∙ rw (lines, floors), shares.1 ∙ rw (areas_are, areas_total (take n.lines ns)));
-              area = areas_are;
-              figure = rw lines figure;
+              first = rw (run_rest n.carried is, is) whole;
+              floor_most = rw floor within.floor.1;
+              down = rw (floor, is, both) (all_append (all_so {P = DownTo d.floor} {Q = DownTo line.floor} (λ l q. omega (arith, lower)) h.down) (all_so {P = At line.floor} {Q = DownTo line.floor} (λ l q. omega (arith, q)) r.same));
+              below = rw (floor, run_rest n.carried is) r.below;
+              floors_most = omega (arith, shares.0, h.floors_most, ap length is, length-append d.carried.numbers.now run, r.some);
+              shares = (shares.0 ∙ rw is (sym floors), shares.1 ∙ rw (n.area_is, areas_total n.carried.numbers.now));
             };
-        lines = lines;
+        carried = is;
         floor = floor;
       }
 
 -- what is known of the walk in the table
 module _ (c : Column) {ns : List ℕ} (seen : map unpacked ns ≡ lines_of c) where
   module _ {d : Descent} (h : Descended c.member ns d) where
-    split : lines_of c ≡ map unpacked (take d.lines ns) ++ map unpacked (drop d.lines ns)
-    split = sym seen ∙ split_at d.lines ns
+    split : lines_of c ≡ map unpacked d.carried.numbers.now ++ map unpacked (left ns d.carried)
+    split = sym seen ∙ (ap (map unpacked) h.first ∙ map-append unpacked d.carried.numbers.now (left ns d.carried))
 
     -- no line has a floor between that of the last one carried and those of the others
-    none_at : (f : ℕ) → d.floor < f → All (Below f) (map unpacked (drop d.lines ns)) → has_floor f (lines_of c) ≡ false
+    none_at : (f : ℕ) → d.floor < f → All (Below f) (map unpacked (left ns d.carried)) → has_floor f (lines_of c) ≡ false
     none_at f low high =
-        rw split (has_none f (all_append (all_so {P = DownTo d.floor} {Q = Other f} (λ l q e. omega arith) h.above) (all_so {P = Below f} {Q = Other f} (λ l q e. omega arith) high)))
+        rw split (has_none f (all_append (all_so {P = DownTo d.floor} {Q = Other f} (λ l q e. omega arith) h.down) (all_so {P = Below f} {Q = Other f} (λ l q e. omega arith) high)))
 
     -- the lines before the place are those carried, so what holds of them is what asking at the floor gives
     working_here : has_floor d.floor (lines_of c) ≡ true
         → working_said (asked c d.floor) ≡ Some (record { floors = d.shares.carried.floors; influence = d.shares.carried.influence; figure = d.figure })
     unfolding asked_of working_of working_said figure_of
     working_here has =
-        rw (has, split, carried_front d.floor h.above h.below, h.figure, figures_total d.shares (take d.lines ns), h.shares.0, h.shares.1)
+        rw (has, split, carried_front d.floor h.down h.below, d.figure_is, figures_total d.shares d.carried.numbers.now, h.shares.0, h.shares.1)
 
     -- at the end of the lines the table has every floor
-    pub all_passed : drop d.lines ns ≡ [] → passed_to c d.floor ≡ workings_of c 64
+    pub all_passed : left ns d.carried ≡ [] → passed_to c d.floor ≡ workings_of c 64
     all_passed e =
         passed_over c (64 - d.floor) d.floor 64 (omega (arith, h.floor_most)) (omega arith) (λ f low high. none_at f low (rw e none))
         ∙ passed_all c
 
     -- and the figure is that of all lines
-    pub all_summed : Reached c → drop d.lines ns ≡ [] → d.figure ≡ lowest_figure c.member (lines_of c)
+    pub all_summed : Reached c → left ns d.carried ≡ [] → d.figure ≡ lowest_figure c.member (lines_of c)
     unfolding figure_of
     all_summed r e =
-        let all : take d.lines ns ≡ ns = sym (append-nil (take d.lines ns)) ∙ (ap (λ (l : List ℕ). take d.lines ns ++ l) (sym e) ∙ take-append-drop d.lines ns) in
-        rw (h.figure, figures_total d.shares (take d.lines ns), h.shares.0, h.shares.1, all, seen) (sym (lowest_all r))
+        let all : d.carried.numbers.now ≡ ns = sym (append-nil d.carried.numbers.now) ∙ (ap (λ (l : List ℕ). d.carried.numbers.now ++ l) (sym e) ∙ sym h.first) in
+        rw (d.figure_is, figures_total d.shares d.carried.numbers.now, h.shares.0, h.shares.1, all, seen) (sym (lowest_all r))
 
   -- the next floor's working put into the table
-  module _ {d n : Descent} {run : List ℕ} (h : Descended c.member ns d) (r : RunAt ns d.lines run) (q : NextOf c.member ns d run n) where
+  module _ {d n : Descent} {run : List ℕ} (h : Descended c.member ns d) (r : RunAt (left ns d.carried) run) (q : NextOf c.member ns d run n) where
     pub lower_floor : d.floor < n.floor
     lower_floor = rw q.floor (lower h r)
 
     has : has_floor n.floor (lines_of c) ≡ true
     has =
         rw (← seen)
-        (has_at n.floor ns d.lines 0 (omega (arith, run_inside h.few r, r.some))
+        (has_at n.floor ns (length d.carried.numbers.now) 0 (omega (arith, run_inside h r, r.some))
         (ap (λ (k : ℕ). (unpacked k).floor) first ∙ sym q.floor))
       where
-        first : get_or ns d.lines 0 ≡ get_or run 0 0
-        first = rw (← add-zero d.lines, ← get_or-drop d.lines ns 0 0, r.is) (get_or_append_left run r.rest 0 0 r.some)
+        first : get_or ns (length d.carried.numbers.now) 0 ≡ get_or run 0 0
+        first = rw (← add-zero (length d.carried.numbers.now), ← get_or-drop (length d.carried.numbers.now) ns 0 0, r.is) (get_or_append_left run r.rest 0 0 r.some)
 
     pub next_put : {table : List (Option Working)} → table ≡ passed_to c d.floor → working_put table n ≡ passed_to c n.floor
     next_put e =
@@ -225,7 +201,7 @@ module _ (c : Column) {ns : List ℕ} (seen : map unpacked ns ≡ lines_of c) wh
         let at : suc f ≡ n.floor = omega (arith, lower_floor) in
         let new : All (At n.floor) (map unpacked run) = rw (← q.floor) at r.same in
         let after : All (Below n.floor) (map unpacked r.rest) = rw (← q.floor) at r.below in
-        let left : map unpacked (drop d.lines ns) ≡ map unpacked run ++ map unpacked r.rest = ap (map unpacked) r.is ∙ map-append unpacked run r.rest in
+        let rest : map unpacked (left ns d.carried) ≡ map unpacked run ++ map unpacked r.rest = ap (map unpacked) r.is ∙ map-append unpacked run r.rest in
         let over = passed_over c (f - d.floor) d.floor f (omega (arith, lower_floor)) (omega (arith, q.descended.floor_most))
-        (λ i low high. none_at h i low (rw left (all_append (all_so {P = At n.floor} {Q = Below i} (λ l p. omega (arith, lower_floor)) new) (all_so {P = Below n.floor} {Q = Below i} (λ l p. omega (arith, lower_floor)) after)))) in
+        (λ i low high. none_at h i low (rw rest (all_append (all_so {P = At n.floor} {Q = Below i} (λ l p. omega (arith, lower_floor)) new) (all_so {P = Below n.floor} {Q = Below i} (λ l p. omega (arith, lower_floor)) after)))) in
         rw (e, over) (passed_put c f (omega (arith, q.descended.floor_most, lower_floor)) (rw at (working_here q.descended has)) ∙ ap (passed_to c) at)

@@ -1,5 +1,5 @@
-// The lines of a column, each as one number.
-ghost use Rattle.std.specs.Prelude.{◌≡◌, map};
+// Lines of a column that stand together, each as one number.
+ghost use Rattle.std.specs.Prelude.{◌≡◌, map, ◌≤◌, length, take};
 ghost use Rattle.column.specs.Line.{unpacked};
 ghost use Rattle.column.specs.Column.{lines_of};
 ghost use Rattle.column.specs.Seen.{column_seen};
@@ -7,12 +7,34 @@ ghost use Rattle.figure.specs.inner.Totals.{Ordered, Lined};
 
 use column::ColumnRef;
 
+// Lines as numbers, within their limits and in floor order.
+#[derive(Clone, Copy)]
+pub struct Lines<'a> {
+    pub numbers: &'a [u64],
+    pub ghost lined: { ∥ Lined numbers.now ∥₁ },
+    pub ghost ordered: { ∥ Ordered (map unpacked numbers.now) ∥₁ },
+}
+
+impl<'a> Lines<'a> {
+    // So many of them, from the first on.
+    pub fn first(self, count: usize) -> Lines<'a>
+        requires { count ≤ length self.numbers.now }
+        ensures { result.numbers.now ≡ take count self.entry.numbers.now }
+    {
+        Lines {
+            numbers: &self.numbers[..count],
+        }
+    }
+}
+
 // The lines of a column that is lent.
-pub fn lines_of<'a>(column: ColumnRef<'a>) -> &'a [u64]
-    ensures { (map unpacked result.now ≡ lines_of (column_seen column.entry)) × Lined result.now × Ordered (map unpacked result.now) }
+pub fn lines_of<'a>(column: ColumnRef<'a>) -> Lines<'a>
+    ensures { map unpacked result.numbers.now ≡ lines_of (column_seen column.entry) }
 {
     let held = column.held;
-    &held[..column.count as usize]
+    Lines {
+        numbers: &held[..column.count as usize],
+    }
 }
 
 // The floor of the line that a number holds.

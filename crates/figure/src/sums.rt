@@ -1,10 +1,10 @@
-// Sums over lines that stand together, in whatever order: the formula lines' area, and R × area.
+// Sums over lines that stand together: the formula lines' area, and R × area.
 ghost use Rattle.std.specs.Prelude.{◌≡◌, ◌≤◌};
 ghost use Rattle.column.specs.Line.{unpacked};
 ghost use Rattle.column.specs.inner.Sound.{InLimits};
-ghost use Rattle.figure.specs.inner.Totals.{formula_area, Lined, areas, figures};
-ghost use Rattle.figure.specs.inner.Shared.{figure_by};
+ghost use Rattle.figure.specs.inner.Totals.{formula_area, areas, figures};
 
+use crate::lines::Lines;
 use crate::rates;
 use crate::shares::Shares;
 use member::TributaryArea;
@@ -21,29 +21,29 @@ fn formula_area(number: u64) -> u64
     0
 }
 
-// The formula lines' area. By the sum of an iterator this and the next take longer, and asking 256 lines is above plain
-// Rust, which the loop is not.
-#[tactic(auto, using(crate::proofs::HeldLines::areas_more))]
-pub fn area_of(lines: &[u64]) -> TributaryArea
-    requires { Lined lines.now }
-    ensures { result.0 ≡ areas lines.now }
-{
-    let mut area: u64 = 0;
-    for line in lines {
-        area += formula_area(*line);
+impl<'a> Lines<'a> {
+    // The formula lines' area. By the sum of an iterator this and the next take longer, and asking 256 lines is above plain
+    // Rust, which the loop is not.
+    #[tactic(auto, using(crate::proofs::HeldLines::line_within, crate::proofs::HeldLines::areas_more))]
+    pub fn area(self) -> TributaryArea
+        ensures { result.0 ≡ areas self.entry.numbers.now }
+    {
+        let mut area: u64 = 0;
+        for line in self.numbers {
+            area += formula_area(*line);
+        }
+        TributaryArea(area)
     }
-    TributaryArea(area)
-}
 
-// The sum of R × area.
-#[tactic(auto, using(crate::proofs::HeldLines::figures_more))]
-pub fn figure_of(lines: &[u64], shares: Shares) -> u64
-    requires { Lined lines.now }
-    ensures { result ≡ figures shares lines.now }
-{
-    let mut figure: u64 = 0;
-    for line in lines {
-        figure += rates::line_figure(*line, shares);
+    // The sum of R × area.
+    #[tactic(auto, using(crate::proofs::HeldLines::line_within, crate::proofs::HeldLines::figures_more))]
+    pub fn figure(self, shares: Shares) -> u64
+        ensures { result ≡ figures shares self.entry.numbers.now }
+    {
+        let mut figure: u64 = 0;
+        for line in self.numbers {
+            figure += rates::line_figure(*line, shares);
+        }
+        figure
     }
-    figure
 }

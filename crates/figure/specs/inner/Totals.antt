@@ -1,14 +1,13 @@
 -- What private functions count and sum over lines, and laws say.
 -- Assumes nothing.
-use Rattle.std.specs.Prelude.{◌≡◌, true, false, cond, Option, MatchOption, List, [], ◌∷◌, map, ℕ, ◌≤◌, ◌<◌, length, sum_by}
-use denote.Ref.{Bor}
+use Rattle.std.specs.Prelude.{◌≡◌, cond, List, [], ◌∷◌, ℕ, ◌≤◌, ◌<◌, length, sum_by}
 use Rattle.column.specs.Line.{most_lines, unpacked}
 use Rattle.std.specs.List.{All as Each}
 use Rattle.lists.specs.Lists.{All}
 use Rattle.column.specs.declared.Line.{Line}
 use Rattle.column.specs.inner.Sound.{InLimits}
 use Rattle.figure.specs.declared.shares.Shares.{Shares}
-use Rattle.figure.specs.Carried.{is_formula_line, carried, has_floor}
+use Rattle.figure.specs.Carried.{is_formula_line}
 use Rattle.figure.specs.inner.Shared.{figure_by}
 
 -- the area that a line adds to the formula lines' area
@@ -43,14 +42,3 @@ NotAbove f l = f ≤ l.floor
 pub data Ordered : List Line → Type 0 where
   empty : Ordered []
   first : {l : Line} {ls : List Line} → All (NotAbove l.floor) ls → Ordered ls → Ordered (l ∷ ls)
-
--- the lines carried at a floor, which a line has; they stand first
-pub record Front (f : ℕ) (ns front : List ℕ) : Type 0 where
-  pub lined : Lined front
-  pub ordered : Ordered (map unpacked front)
-  pub has : has_floor f (map unpacked ns) ≡ true
-  pub carries : carried f (map unpacked ns) ≡ map unpacked front
-
--- those, or none where no line has the floor
-abbrev pub FrontOf : ℕ → List ℕ → Option (Bor (List ℕ)) → Type 0
-FrontOf f ns r = MatchOption r (has_floor f (map unpacked ns) ≡ false) (λ front. Front f ns front.now)

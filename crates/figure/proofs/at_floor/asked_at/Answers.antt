@@ -13,43 +13,35 @@ use Rattle.figure.specs.Carried.{formula_lines, carried, has_floor, floors_of, a
 use Rattle.figure.specs.Figure.{figure_of}
 use Rattle.figure.specs.Asked.{working_of, asked_of}
 use Rattle.figure.specs.declared.shares.Shares.{Shares}
-use Rattle.figure.specs.inner.Totals.{Front}
+use Rattle.figure.specs.inner.Front.{Front}
 use Rattle.figure.specs.inner.Shared.{figure_by, SharesOf}
-use Rattle.figure.proofs.HeldLines.{areas_most, areas_total, figures_total}
+use Rattle.figure.proofs.HeldLines.{lines_lined, areas_most, areas_total, figures_total}
 use Rattle.figure.proofs.at_floor.asked_at.Goals as goal
-use Rattle.figure.proofs.at_floor.asked_at.Goals.{After-floors_in_order-floors}
 
 pub returns-in_err-carried : goal.returns-in_err-carried
 unfolding said asked_of number_of
 returns-in_err-carried c =
-    let none : has_floor c.args.floor (map unpacked c.lines_of-lines.result.now) ≡ false = rw c.in_err-carried.ensures.ok_part at c.carried_at.ensures in
+    let none : has_floor c.args.floor (map unpacked c.lines_of-lines.result.numbers.now) ≡ false = rw c.in_err-carried.ensures.ok_part at c.carried_at.ensures in
     let refused : c.from_residual.result ≡ Err NoLineAtFloor = search rules in
-    rw (refused, ← c.lines_of-lines.ensures.0, none)
-
--- the lines carried
-front : (c : After-floors_in_order-floors) → Front c.args.floor c.lines_of-lines.result.now c.in_ok-carried.carried.now
-front c = rw c.in_ok-carried.ensures.ok_part at c.carried_at.ensures
+    rw (refused, ← c.lines_of-lines.ensures, none)
 
 pub shares_at-shares-requires : goal.shares_at-shares-requires
 shares_at-shares-requires c =
-    let f = front (goal.at.shares_at-shares-requires c).After-floors_in_order-floors in
-    ((sound (seen_reached c.args.column)).code, omega (arith, c.area_of-area.ensures, areas_most c.in_ok-carried.carried.now f.lined))
-
-pub figure_of-figure-requires : goal.figure_of-figure-requires
-figure_of-figure-requires c = (front (goal.at.figure_of-figure-requires c).After-floors_in_order-floors).lined
+    ((sound (seen_reached c.args.column)).code, omega (arith, c.area.ensures, areas_most _ (lines_lined c.in_ok-carried.carried)))
 
 -- what was counted and summed of the lines carried is what asking gives
 summed : (m : Member) (ls front : List Line) (f : ℕ) (s : Shares) {n area figure : ℕ} → has_floor f ls ≡ true → carried f ls ≡ front
     → n ≡ floors_of front → area ≡ area_of (formula_lines front) → SharesOf n (influence_from m area) s → figure ≡ total (figure_by s) front
-    → gives (record { floors = n; influence = s.carried.influence; figure = figure }) ≡ asked_of m ls f
+    → gives (record { floors = s.carried.floors; influence = s.carried.influence; figure = figure }) ≡ asked_of m ls f
 unfolding asked_of working_of figure_of influence_of
 summed m ls front f s has front-is floors area shares figure = rw (has, front-is, figure) (rw (shares.0, shares.1, area, floors))
 
 pub returns : goal.returns
 unfolding said
 returns c =
-    let f = front (goal.at.returns c).After-floors_in_order-floors in
-    let ns = c.in_ok-carried.carried.now in
-    rw (← c.lines_of-lines.ensures.0)
-    (summed c.args.column.member (map unpacked c.lines_of-lines.result.now) (map unpacked ns) c.args.floor c.shares_at-shares.result
-    f.has f.carries c.floors_in_order-floors.ensures (c.area_of-area.ensures ∙ areas_total ns) c.shares_at-shares.ensures (c.figure_of-figure.ensures ∙ figures_total c.shares_at-shares.result ns))
+    let lines = c.lines_of-lines.result.numbers.now in
+    let ns = c.in_ok-carried.carried.numbers.now in
+    let f : Front c.args.floor lines ns = rw c.in_ok-carried.ensures.ok_part at c.carried_at.ensures in
+    rw (← c.lines_of-lines.ensures)
+    (summed c.args.column.member (map unpacked lines) (map unpacked ns) c.args.floor c.shares_at-shares.result f.has f.carries c.floors.ensures
+    (c.area.ensures ∙ areas_total ns) c.shares_at-shares.ensures (c.figure-figure.ensures ∙ figures_total c.shares_at-shares.result ns))

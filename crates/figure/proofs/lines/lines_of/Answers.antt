@@ -11,9 +11,16 @@ use Rattle.figure.proofs.lines.lines_of.Goals as goal
 pub shared_ref_as_front-result : goal.shared_ref_as_front-result
 shared_ref_as_front-result c = (sound (seen_reached c.args.column)).held.few
 
-pub returns : goal.returns
+pub invariant_of-result : goal.invariant_of-result
 unfolding lines_of
-returns c =
+invariant_of-result c =
     let column = c.args.column in
     let ok = (sound (seen_reached column)).held in
-    (refl, (omega (arith, length-take-le column.count column.held.now (omega (arith, ok.few, ok.size)), ok.few), each_of (take column.count column.held.now) ok.lines), reached_ordered (seen_reached column))
+    record {
+      lined = ∣ (omega (arith, length-take-le column.count column.held.now (omega (arith, ok.few, ok.size)), ok.few), each_of (take column.count column.held.now) ok.lines) ∣₁;
+      ordered = ∣ reached_ordered (seen_reached column) ∣₁;
+    }
+
+pub returns : goal.returns
+unfolding lines_of
+returns c = refl

@@ -1,7 +1,0 @@
--- `figure::sums::figure_of` meets its contract: the loop has summed the lines so far. Assumes nothing.
-use Rattle.std.proofs.Common.{◌≡◌, take}
-use Rattle.figure.specs.inner.Totals.{figures}
-use Rattle.figure.proofs.sums.figure_of.Given as goal
-
-abbrev pub invariant-loop-line : goal.invariant-loop-line
-invariant-loop-line l = l.figure ≡ figures l.shares (take l.line-index l.lines)
