@@ -2,6 +2,7 @@
 -- Assumes nothing.
 use Rattle.std.proofs.Common.{◌≡◌, refl, sym, ◌∙◌, ap, Bool, true, false, ◌&&◌, ℕ, ◌+◌, ◌*◌, ◌/◌, ◌≤◌, ◌<◌, mul_assoc, mul_comm, mul-add, mul-le-mul, arith, leb, eqb, le-leb, eqb-true, eq-eqb, ne_eqb}
 use Rattle.std.specs.Prelude.{Some}
+use Rattle.std.proofs.Math.Path.{subst⁻¹}
 use Rattle.std.proofs.lemmas.Bool.{lt-leb, eqb-false}
 use Rattle.lists.proofs.Tests.{cases, same_test}
 use Rattle.member.specs.Line.{is_formula}
@@ -58,14 +59,6 @@ unfolding share_rate
 share_by (Twentieths k) load fit sure = twentieths_by k load (fit_twentieths {k = k} fit refl).0 (fit_load fit)
 share_by (Root x) load fit sure = scaled_by (root_scale x) load _ (root_scaled x load fit) sure
 
--- a formula line's load by the formula's rate
-pub formula_by : (n load : ℕ) (x : InfluenceArea) → load ≤ 5000 → Sure (rate_of n x) load → by (rate_of n x) load ≡ reduced (share_of load 1 n x) load
-unfolding rate_of is_formula
-formula_by n load x small sure =
-    let share : share_of load 1 n x ≡ formula_share n x = share_formula load 1 n x (le-leb load 5000 small) in
-    let fits = rw share at (share_fits load 1 n x (omega arith)) in
-    rw share (share_by (formula_share n x) load fits sure)
-
 -- no rate is larger than this, so that no product passes 64 bits
 pub record Small (r : Rate) : Type 0 where
   pub times : r.times ≤ 67108880
@@ -83,9 +76,30 @@ share_small (Root x) fit =
     let most = scale_most x (fit_root {x = x} fit refl).0 in
     record { times = omega (arith, most); plus = omega arith; doubt = omega arith }
 
-pub formula_small : (n : ℕ) (x : InfluenceArea) → Small (rate_of n x)
+formula_small : (s : Shares) → Small s.formula
 unfolding rate_of
-formula_small n x = share_small (formula_share n x) (formula_fits n x)
+formula_small s =
+    let share = formula_share s.carried.floors s.carried.influence in
+    subst⁻¹ Small s.formula_is (share_small share (formula_fits s.carried.floors s.carried.influence))
+
+pub times_most : (s : Shares) (load : ℕ) → load ≤ 5000 → load * s.formula.times ≤ 335544400000
+times_most s load h = mul-le-mul h (formula_small s).times
+
+pub doubts_most : (s : Shares) (load : ℕ) → load ≤ 5000 → load * s.formula.doubt ≤ 160000
+doubts_most s load h = mul-le-mul h (formula_small s).doubt
+
+pub low_most : (s : Shares) (load : ℕ) → load ≤ 5000 → load * s.formula.times + s.formula.plus ≤ 335611508832
+low_most s load h = omega (arith, times_most s load h, (formula_small s).plus)
+
+-- a formula line's load by the formula's rate
+pub formula_by : (s : Shares) (load : ℕ) → load ≤ 5000 → Sure s.formula load → by s.formula load ≡ formula_load s load
+unfolding rate_of is_formula
+formula_by s load small =
+    let n = s.carried.floors in
+    let x = s.carried.influence in
+    let share : share_of load 1 n x ≡ formula_share n x = share_formula load 1 n x (le-leb load 5000 small) in
+    let fits = rw share at (share_fits load 1 n x (omega arith)) in
+    subst⁻¹ (λ (r : Rate). Sure r load → by r load ≡ formula_load s load) s.formula_is (λ sure. rw share (share_by (formula_share n x) load fits sure))
 
 -- the rate is that of the twentieths where the share is clamped, and else the root's by its scale
 pub rate_clamped : (n : ℕ) (x : InfluenceArea) {k : ℕ} → clamped_of n x ≡ Some k → twentieths_rate k ≡ rate_of n x

@@ -110,6 +110,7 @@ fn searched_load(load: u64, shares: Shares) -> u64
 }
 
 // R of a formula line.
+#[tactic(auto, using(crate::proofs::ByRate::times_most, crate::proofs::ByRate::low_most, crate::proofs::ByRate::doubts_most))]
 fn formula_load(load: u64, shares: Shares) -> u64
     requires { (1 ≤ load) × (load ≤ 5000) }
     ensures { result ≡ formula_load shares load }
