@@ -7,7 +7,7 @@ ghost use Rattle.figure.specs.Carried.{floors_of};
 ghost use Rattle.figure.specs.Asked.{asked};
 ghost use Rattle.figure.specs.inner.Front.{FrontOf};
 
-use crate::lines::{self, Lines, floor_of};
+use crate::lines::{Lines, floor_of};
 use crate::{Working, rates};
 use column::ColumnRef;
 use refusal::Refusal;
@@ -49,7 +49,7 @@ impl<'a> Lines<'a> {
 pub fn asked_at(column: ColumnRef<'_>, floor: u64) -> Result<Working, Refusal>
     ensures { said result ≡ asked (column_seen column.entry) floor }
 {
-    let lines = lines::lines_of(column);
+    let lines = Lines::of(column);
     let carried = lines.carried_at(floor).ok_or(Refusal::NoLineAtFloor)?;
     let shares = rates::shares_at(column.member, carried.floors(), carried.area());
     let figure = carried.figure(shares);

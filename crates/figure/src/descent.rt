@@ -8,7 +8,7 @@ ghost use Rattle.figure.specs.Lowest.{lowest_figure};
 ghost use Rattle.figure.specs.Workings.{workings_of};
 ghost use Rattle.figure.specs.inner.Totals.{areas, figures};
 
-use crate::lines::{self, Lines, floor_of};
+use crate::lines::{Lines, floor_of};
 use crate::shares::Shares;
 use crate::{FLOORS, Table, Working, rates};
 use column::{ColumnRef, Member};
@@ -96,7 +96,7 @@ pub fn work_out_all(column: ColumnRef<'_>, table: &mut Table) -> u64
     ensures lowest { result ≡ lowest_figure column.entry.member (lines_of (column_seen column.entry)) }
 {
     *table = [None; FLOORS];
-    let lines = lines::lines_of(column);
+    let lines = Lines::of(column);
     let mut here = Descent::top(lines, column.member);
     for new in lines
         .numbers

@@ -29,7 +29,8 @@ pub const FLOORS: usize = column::LOWEST_FLOOR as usize;
 pub type Table = [Option<Working>; FLOORS];
 
 // What holds at a floor: the number n of distinct floors carried, the influence area X, and the
-// figure in hundredths of a newton.
+// figure in hundredths of a newton. With a Carried for n and X, the two that make one would be shorter, and
+// each of the fourteen lines that read them longer.
 #[derive(Clone, Copy)]
 pub struct Working {
     pub floors: u64,

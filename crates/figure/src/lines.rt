@@ -16,6 +16,15 @@ pub struct Lines<'a> {
 }
 
 impl<'a> Lines<'a> {
+    // The lines of a column that is lent.
+    pub fn of(column: ColumnRef<'a>) -> Lines<'a>
+        ensures { map unpacked result.numbers.now ≡ lines_of (column_seen column.entry) }
+    {
+        Lines {
+            numbers: column.numbers(),
+        }
+    }
+
     // So many of them, from the first on.
     pub fn first(self, count: usize) -> Lines<'a>
         requires { count ≤ length self.numbers.now }
@@ -24,16 +33,6 @@ impl<'a> Lines<'a> {
         Lines {
             numbers: &self.numbers[..count],
         }
-    }
-}
-
-// The lines of a column that is lent.
-pub fn lines_of<'a>(column: ColumnRef<'a>) -> Lines<'a>
-    ensures { map unpacked result.numbers.now ≡ lines_of (column_seen column.entry) }
-{
-    let held = column.held;
-    Lines {
-        numbers: &held[..column.count as usize],
     }
 }
 

@@ -21,9 +21,9 @@ use Rattle.figure.proofs.at_floor.asked_at.Goals as goal
 pub returns-in_err-carried : goal.returns-in_err-carried
 unfolding said asked_of number_of
 returns-in_err-carried c =
-    let none : has_floor c.args.floor (map unpacked c.lines_of-lines.result.numbers.now) ≡ false = rw c.in_err-carried.ensures.ok_part at c.carried_at.ensures in
+    let none : has_floor c.args.floor (map unpacked c.of-lines.result.numbers.now) ≡ false = rw c.in_err-carried.ensures.ok_part at c.carried_at.ensures in
     let refused : c.from_residual.result ≡ Err NoLineAtFloor = search rules in
-    rw (refused, ← c.lines_of-lines.ensures, none)
+    rw (refused, ← c.of-lines.ensures, none)
 
 pub shares_at-shares-requires : goal.shares_at-shares-requires
 shares_at-shares-requires c =
@@ -39,9 +39,9 @@ summed m ls front f s has front-is floors area shares figure = rw (has, front-is
 pub returns : goal.returns
 unfolding said
 returns c =
-    let lines = c.lines_of-lines.result.numbers.now in
+    let lines = c.of-lines.result.numbers.now in
     let ns = c.in_ok-carried.carried.numbers.now in
     let f : Front c.args.floor lines ns = rw c.in_ok-carried.ensures.ok_part at c.carried_at.ensures in
-    rw (← c.lines_of-lines.ensures)
+    rw (← c.of-lines.ensures)
     (summed c.args.column.member (map unpacked lines) (map unpacked ns) c.args.floor c.shares_at-shares.result f.has f.carries c.floors.ensures
     (c.area.ensures ∙ areas_total ns) c.shares_at-shares.ensures (c.figure-figure.ensures ∙ figures_total c.shares_at-shares.result ns))

@@ -25,19 +25,19 @@ none_left [] e z = e
 none_left (n ∷ rest) e z = absurd (omega (arith, z))
 
 -- the lines of the next floor, and those after them
-split : (c : In-Some) → left c.lines_of-lines.result.numbers.now c.loop-new.here.carried ≡ c.in-Some.new.now ++ c.next.new.self.rest.now
+split : (c : In-Some) → left c.of-lines.result.numbers.now c.loop-new.here.carried ≡ c.in-Some.new.now ++ c.next.new.self.rest.now
 split c = sym c.loop-new.invariant.1 ∙ c.in-Some.ensures.steps.0
 
-new : (c : In-Some) → RunAt (left c.lines_of-lines.result.numbers.now c.loop-new.here.carried) c.in-Some.new.now
+new : (c : In-Some) → RunAt (left c.of-lines.result.numbers.now c.loop-new.here.carried) c.in-Some.new.now
 new c =
     let step = c.in-Some.ensures.steps in
-    run_at c.lines_of-lines.result _ c.loop-new.new-iterator.rest.now c.in-Some.new.now c.next.new.self.rest.now c.loop-new.invariant.1 step.0 step.1
+    run_at c.of-lines.result _ c.loop-new.new-iterator.rest.now c.in-Some.new.now c.next.new.self.rest.now c.loop-new.invariant.1 step.0 step.1
     (step.2 same_floor (always_returns_same _ _ _ (λ a r f' k. search rules))).1
 
 pub invariant_of-next : goal.invariant_of-next
 invariant_of-next c =
     let s = split (goal.at.invariant_of-next c).In-Some in
-    record { lined = ∣ lined_run c.lines_of-lines.result _ _ _ s ∣₁; ordered = ∣ ordered_run c.lines_of-lines.result _ _ _ s ∣₁ }
+    record { lined = ∣ lined_run c.of-lines.result _ _ _ s ∣₁; ordered = ∣ ordered_run c.of-lines.result _ _ _ s ∣₁ }
 
 pub next-here-requires : goal.next-here-requires
 next-here-requires c = (c.loop-new.invariant.0, new (goal.at.next-here-requires c).In-Some)
@@ -46,21 +46,21 @@ pub put_in-requires : goal.put_in-requires
 put_in-requires c =
     let l = c.loop-new in
     let n = c.next-here.ensures in
-    (ap length l.invariant.2 ∙ passed_length _ l.here.floor l.invariant.0.floor_most, omega (arith, lower_floor (column_seen c.args.column) c.lines_of-lines.ensures l.invariant.0 (new (goal.at.put_in-requires c).In-Some) n), n.descended.floor_most)
+    (ap length l.invariant.2 ∙ passed_length _ l.here.floor l.invariant.0.floor_most, omega (arith, lower_floor (column_seen c.args.column) c.of-lines.ensures l.invariant.0 (new (goal.at.put_in-requires c).In-Some) n), n.descended.floor_most)
 
 pub loop-new-preserved : goal.loop-new-preserved
 loop-new-preserved c =
     let l = c.loop-new in
     let n = c.next-here.ensures in
     let i = (goal.at.loop-new-preserved c).In-Some in
-    (n.descended, rw n.carried (sym (rest_after c.lines_of-lines.result.numbers.now l.here.carried.numbers.now c.in-Some.new.now _ (split i))), c.put_in.ensures ∙ next_put (column_seen c.args.column) c.lines_of-lines.ensures l.invariant.0 (new i) n l.invariant.2)
+    (n.descended, rw n.carried (sym (rest_after c.of-lines.result.numbers.now l.here.carried.numbers.now c.in-Some.new.now _ (split i))), c.put_in.ensures ∙ next_put (column_seen c.args.column) c.of-lines.ensures l.invariant.0 (new i) n l.invariant.2)
 
 pub returns-clause-workings : goal.returns-clause-workings
 returns-clause-workings c =
     let l = c.loop-new in
-    l.invariant.2 ∙ all_passed (column_seen c.args.column) c.lines_of-lines.ensures l.invariant.0 (none_left l.new-iterator.rest.now (sym l.invariant.1) c.in-None.ensures.steps.0)
+    l.invariant.2 ∙ all_passed (column_seen c.args.column) c.of-lines.ensures l.invariant.0 (none_left l.new-iterator.rest.now (sym l.invariant.1) c.in-None.ensures.steps.0)
 
 pub returns-clause-lowest : goal.returns-clause-lowest
 returns-clause-lowest c =
     let l = c.loop-new in
-    all_summed (column_seen c.args.column) c.lines_of-lines.ensures l.invariant.0 (seen_reached c.args.column) (none_left l.new-iterator.rest.now (sym l.invariant.1) c.in-None.ensures.steps.0)
+    all_summed (column_seen c.args.column) c.of-lines.ensures l.invariant.0 (seen_reached c.args.column) (none_left l.new-iterator.rest.now (sym l.invariant.1) c.in-None.ensures.steps.0)
