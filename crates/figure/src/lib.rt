@@ -17,6 +17,7 @@ use refusal::Refusal;
 mod any_order;
 mod at_floor;
 mod descent;
+mod line;
 mod lines;
 mod rates;
 mod shares;

@@ -3,11 +3,11 @@ ghost use Rattle.std.specs.Prelude.{◌≡◌, true, ◌≤◌};
 ghost use Rattle.member.specs.Between.{between};
 ghost use Rattle.reduction.specs.Share.{other_twentieths};
 ghost use Rattle.column.specs.Line.{unpacked};
-ghost use Rattle.column.specs.inner.Sound.{InLimits};
 ghost use Rattle.figure.specs.Carried.{is_formula_line, influence_from};
 ghost use Rattle.figure.specs.inner.Rates.{twentieths_rate, rate_of};
 ghost use Rattle.figure.specs.inner.Shared.{SharesOf, formula_load, figure_by};
 
+use crate::line::HeldLine;
 use crate::shares::Shares;
 use column::Member;
 use member::TributaryArea;
@@ -124,33 +124,32 @@ fn formula_load(load: u64, shares: Shares) -> u64
     reduced
 }
 
-// `times` of a line that the formula is not for: class 3 has the whole load.
-fn other_times(number: u64, shares: Shares) -> u64
-    requires { InLimits (unpacked number) }
-    ensures { result ≡ (twentieths_rate (other_twentieths (unpacked number).class shares.carried.floors)).times }
-{
-    if column::key_of(number) < ASSEMBLY_FIRST {
-        return shares.other;
+impl HeldLine {
+    // `times` of a line that the formula is not for: class 3 has the whole load.
+    fn other_times(self, shares: Shares) -> u64
+        ensures { result ≡ (twentieths_rate (other_twentieths (unpacked self.number).class shares.carried.floors)).times }
+    {
+        if column::key_of(self.number) < ASSEMBLY_FIRST {
+            return shares.other;
+        }
+        20 * TWENTIETH
     }
-    20 * TWENTIETH
-}
 
-// Whether the line that a number holds is a formula line: class 1 and a load of at most 5,000.
-pub fn is_formula(number: u64) -> bool
-    requires { InLimits (unpacked number) }
-    ensures { result ≡ is_formula_line (unpacked number) }
-{
-    column::key_of(number) <= FORMULA_LAST
-}
-
-// R × area of the line that a number holds.
-pub fn line_figure(number: u64, shares: Shares) -> u64
-    requires { InLimits (unpacked number) }
-    ensures { (result ≡ figure_by shares (unpacked number)) × (result ≤ 10000000000) }
-{
-    let line = column::line_of(number);
-    if is_formula(number) {
-        return formula_load(line.load, shares) * line.area.0;
+    // Whether it is a formula line: class 1 and a load of at most 5,000.
+    pub fn is_formula(self) -> bool
+        ensures { result ≡ is_formula_line (unpacked self.number) }
+    {
+        column::key_of(self.number) <= FORMULA_LAST
     }
-    (line.load * other_times(number, shares) + ROUND_UP) / UNIT * line.area.0
+
+    // R × area.
+    pub fn figure(self, shares: Shares) -> u64
+        ensures { (result ≡ figure_by shares (unpacked self.number)) × (result ≤ 10000000000) }
+    {
+        let line = column::line_of(self.number);
+        if self.is_formula() {
+            return formula_load(line.load, shares) * line.area.0;
+        }
+        (line.load * self.other_times(shares) + ROUND_UP) / UNIT * line.area.0
+    }
 }

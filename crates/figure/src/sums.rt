@@ -1,24 +1,24 @@
 // Sums over lines that stand together: the formula lines' area, and R × area.
 ghost use Rattle.std.specs.Prelude.{◌≡◌, ◌≤◌};
 ghost use Rattle.column.specs.Line.{unpacked};
-ghost use Rattle.column.specs.inner.Sound.{InLimits};
 ghost use Rattle.figure.specs.inner.Totals.{formula_area, areas, figures};
 
+use crate::line::HeldLine;
 use crate::lines::Lines;
-use crate::rates;
 use crate::shares::Shares;
 use member::TributaryArea;
 
-// The area of a formula line, and 0 of any other.
-#[tactic(auto, unfolding(crate::specs::inner::Totals::formula_area))]
-fn formula_area(number: u64) -> u64
-    requires { InLimits (unpacked number) }
-    ensures { (result ≡ formula_area (unpacked number)) × (result ≤ 200000) }
-{
-    if rates::is_formula(number) {
-        return column::line_of(number).area.0;
+impl HeldLine {
+    // The area of a formula line, and 0 of any other.
+    #[tactic(auto, unfolding(crate::specs::inner::Totals::formula_area))]
+    fn formula_area(self) -> u64
+        ensures { (result ≡ formula_area (unpacked self.number)) × (result ≤ 200000) }
+    {
+        if self.is_formula() {
+            return column::line_of(self.number).area.0;
+        }
+        0
     }
-    0
 }
 
 impl<'a> Lines<'a> {
@@ -30,7 +30,7 @@ impl<'a> Lines<'a> {
     {
         let mut area: u64 = 0;
         for line in self.numbers {
-            area += formula_area(*line);
+            area += HeldLine { number: *line }.formula_area();
         }
         TributaryArea(area)
     }
@@ -42,7 +42,7 @@ impl<'a> Lines<'a> {
     {
         let mut figure: u64 = 0;
         for line in self.numbers {
-            figure += rates::line_figure(*line, shares);
+            figure += HeldLine { number: *line }.figure(shares);
         }
         figure
     }
