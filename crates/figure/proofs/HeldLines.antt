@@ -8,7 +8,7 @@ use Rattle.std.proofs.Math.Seq.{take-append_seam}
 use Rattle.std.proofs.Props.{props}
 use Rattle.std.proofs.lemmas.List.{take-append-drop, map-append, take_more}
 use Rattle.std.proofs.lemmas.List.Elements.{All-take, All-drop}
-use Rattle.std.proofs.lemmas.List.Sums.{sum_by-cons, sum_by-le, sum_by_more}
+use Rattle.std.proofs.lemmas.List.Sums.{sum_by-cons, sum_by-le}
 use Rattle.lists.specs.Lists.{All, none, more, total}
 use Rattle.lists.proofs.Tests.{cases}
 use Rattle.lists.proofs.Lists.{all_first, all_rest}
@@ -76,6 +76,9 @@ pub lines_ordered : (l : Lines) → Ordered (map unpacked l.numbers.now)
 lines_ordered l =
     ordered_from l.numbers.now (λ i j d p q. ∥∥₁_elim l.ordered (Prim.hlevel props) (λ o. in_order l.numbers.now o i j d p q))
 
+pub lines_few : (l : Lines) → length l.numbers.now ≤ 256
+lines_few l = (lines_lined l).0
+
 pub line_within : (l : Lines) (i d : ℕ) → i < length l.numbers.now → InLimits (unpacked (get_or l.numbers.now i d))
 line_within l i d h = (lines_lined l).1 i d h
 
@@ -119,18 +122,3 @@ areas_most ns h = omega (arith, h.0, sum_by-le (λ n. formula_area (unpacked n))
 
 pub figures_most : (s : Shares) (ns : List ℕ) → Lined ns → figures s ns ≤ 2560000000000
 figures_most s ns h = omega (arith, h.0, sum_by-le (λ n. figure_by s (unpacked n)) 10000000000 ns (λ k d q. line_most s.carried.floors s.carried.influence _ (h.1 k d q)))
-
--- one line more
-pub areas_more : (l : Lines) (i : ℕ) → i < length l.numbers.now
-    → (areas (take (i + 1) l.numbers.now) ≡ areas (take i l.numbers.now) + formula_area (line_at l.numbers.now i)) × (areas (take i l.numbers.now) + formula_area (line_at l.numbers.now i) ≤ 51200000)
-areas_more l i k =
-    let ns = l.numbers.now in
-    let more = sum_by_more (λ n. formula_area (unpacked n)) ns i 0 k in
-    (more, omega (arith, more, areas_most (take (i + 1) ns) (lined_take (i + 1) ns (lines_lined l))))
-
-pub figures_more : (s : Shares) (l : Lines) (i : ℕ) → i < length l.numbers.now
-    → (figures s (take (i + 1) l.numbers.now) ≡ figures s (take i l.numbers.now) + figure_by s (line_at l.numbers.now i)) × (figures s (take i l.numbers.now) + figure_by s (line_at l.numbers.now i) ≤ 2560000000000)
-figures_more s l i k =
-    let ns = l.numbers.now in
-    let more = sum_by_more (λ n. figure_by s (unpacked n)) ns i 0 k in
-    (more, omega (arith, more, figures_most s (take (i + 1) ns) (lined_take (i + 1) ns (lines_lined l))))

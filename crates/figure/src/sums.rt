@@ -24,7 +24,7 @@ impl HeldLine {
 impl<'a> Lines<'a> {
     // The formula lines' area. By the sum of an iterator this and the next take longer, and asking 256 lines is above plain
     // Rust, which the loop is not.
-    #[tactic(auto, using(crate::proofs::HeldLines::line_within, crate::proofs::HeldLines::areas_more))]
+    #[tactic(auto, using(crate::proofs::HeldLines::line_within, crate::proofs::HeldLines::lines_few, std::proofs::lemmas::List::Sums::sum_by_more))]
     pub fn area(self) -> TributaryArea
         ensures { result.0 ≡ areas self.entry.numbers.now }
     {
@@ -36,7 +36,7 @@ impl<'a> Lines<'a> {
     }
 
     // The sum of R × area.
-    #[tactic(auto, using(crate::proofs::HeldLines::line_within, crate::proofs::HeldLines::figures_more))]
+    #[tactic(auto, using(crate::proofs::HeldLines::line_within, crate::proofs::HeldLines::lines_few, std::proofs::lemmas::List::Sums::sum_by_more))]
     pub fn figure(self, shares: Shares) -> u64
         ensures { result ≡ figures shares self.entry.numbers.now }
     {
