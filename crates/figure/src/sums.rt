@@ -26,7 +26,7 @@ impl<'a> Lines<'a> {
     // Rust, which the loop is not.
     #[tactic(auto, using(crate::proofs::HeldLines::line_within, crate::proofs::HeldLines::lines_few, std::proofs::lemmas::List::Sums::sum_by_more))]
     pub fn area(self) -> TributaryArea
-        ensures { result.0 ≡ areas self.entry.numbers.now }
+        ensures { (result.0 ≡ areas self.entry.numbers.now) × (result.0 ≤ 51200000) }
     {
         let mut area: u64 = 0;
         for line in self.numbers {

@@ -1,5 +1,5 @@
 -- `figure::at_floor::asked_at` meets its contract: each way out picks its case of the definition. Assumes nothing.
-use Rattle.std.proofs.Common.{◌≡◌, ◌∙◌, arith, ℕ, List, map, true, false, Err, rules}
+use Rattle.std.proofs.Common.{◌≡◌, ◌∙◌, ℕ, List, map, true, false, Err, rules}
 use Rattle.refusal.specs.Said.{said, gives}
 use Rattle.refusal.specs.declared.Refusal.TheVariants.{NoLineAtFloor}
 use Rattle.refusal.specs.Refusal.{number_of}
@@ -15,7 +15,7 @@ use Rattle.figure.specs.Asked.{working_of, asked_of}
 use Rattle.figure.specs.declared.shares.Shares.{Shares}
 use Rattle.figure.specs.inner.Front.{Front}
 use Rattle.figure.specs.inner.Shared.{figure_by, SharesOf}
-use Rattle.figure.proofs.HeldLines.{lines_lined, areas_most, areas_total, figures_total}
+use Rattle.figure.proofs.HeldLines.{areas_total, figures_total}
 use Rattle.figure.proofs.at_floor.asked_at.Goals as goal
 
 pub returns-in_err-carried : goal.returns-in_err-carried
@@ -26,8 +26,7 @@ returns-in_err-carried c =
     rw (refused, ← c.of-lines.ensures, none)
 
 pub shares_at-shares-requires : goal.shares_at-shares-requires
-shares_at-shares-requires c =
-    ((sound (seen_reached c.args.column)).code, omega (arith, c.area.ensures, areas_most _ (lines_lined c.in_ok-carried.carried)))
+shares_at-shares-requires c = ((sound (seen_reached c.args.column)).code, c.area.ensures.1)
 
 -- what was counted and summed of the lines carried is what asking gives
 summed : (m : Member) (ls front : List Line) (f : ℕ) (s : Shares) {n area figure : ℕ} → has_floor f ls ≡ true → carried f ls ≡ front
@@ -44,4 +43,4 @@ returns c =
     let f : Front c.args.floor lines ns = rw c.in_ok-carried.ensures.ok_part at c.carried_at.ensures in
     rw (← c.of-lines.ensures)
     (summed c.args.column.member (map unpacked lines) (map unpacked ns) c.args.floor c.shares_at-shares.result f.has f.carries c.floors.ensures
-    (c.area.ensures ∙ areas_total ns) c.shares_at-shares.ensures (c.figure-figure.ensures ∙ figures_total c.shares_at-shares.result ns))
+    (c.area.ensures.0 ∙ areas_total ns) c.shares_at-shares.ensures (c.figure-figure.ensures ∙ figures_total c.shares_at-shares.result ns))

@@ -15,7 +15,7 @@ first-carried-requires c = run_inside c.requires.0 c.requires.1
 
 -- and their formula lines' area is within its limit
 sum : (c : After-area) → c.args.self.area.0 + c.area.result.0 ≡ areas c.first-carried.result.numbers.now
-sum c = ap (λ (n : ℕ). c.args.self.area.0 + n) c.area.ensures ∙ sym (ap areas (carried c.before) ∙ run_areas c.requires.0 c.requires.1)
+sum c = ap (λ (n : ℕ). c.args.self.area.0 + n) c.area.ensures.0 ∙ sym (ap areas (carried c.before) ∙ run_areas c.requires.0 c.requires.1)
 
 most : (c : After-area) → c.args.self.area.0 + c.area.result.0 ≤ 51200000
 most c = omega (arith, sum c, areas_most _ (lines_lined c.first-carried.result))
