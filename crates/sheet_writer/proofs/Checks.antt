@@ -9,7 +9,6 @@ use Rattle.column.specs.declared.Column.{Column}
 use Rattle.sheet_text.specs.Written.{written}
 use Rattle.sheet_writer.specs.declared.SheetDoubles.{SheetDoubles}
 use Rattle.sheet_writer.specs.Saving.{Placed, six_checked, no_effect, if_whole, if_room, saving, sized, saved_of}
-use Rattle.sheet_writer.specs.inner.Parts.{sheet_from}
 
 -- what is told of all six tells how they are checked
 pub six_taken_are : (t : Told Placed (List ℤ)) {zs : List ℤ} → told {B = Option Placed} (Ok zs) ≡ if_whole t (λ ys. gives ys) → t ≡ gives zs
@@ -19,7 +18,7 @@ six_taken_are (refused n e) {zs} h = cc
 
 module _ (c : Column) (e : SheetDoubles) (room : ℕ) where
   -- and what writing gives then
-  pub saving_whole : {zs : List ℤ} → six_checked e ≡ gives zs → saving c e room ≡ if_room room (written (sheet_from c zs))
+  pub saving_whole : {zs : List ℤ} → six_checked e ≡ gives zs → saving c e room ≡ if_room room (written (record { column = c; effects = zs }))
   unfolding saving if_whole
   saving_whole h = rw h
 
@@ -28,7 +27,7 @@ module _ (c : Column) (e : SheetDoubles) (room : ℕ) where
   saving_refused r h = go (six_checked e) h
     where
       go : (t : Told Placed (List ℤ)) → refused (number_of r.refusal) r.back ≡ if_whole {A = List ℤ} t (λ zs. gives zs)
-          → if_whole t (λ zs. if_room room (written (sheet_from c zs))) ≡ refused (number_of r.refusal) r.back
+          → if_whole t (λ zs. if_room room (written (record { column = c; effects = zs }))) ≡ refused (number_of r.refusal) r.back
       go (gives zs) h = cc
       go (refused n x) h =
           let p : number_of r.refusal ≡ n = cc in

@@ -3,15 +3,14 @@
 ghost use Rattle.std.specs.Prelude.{◌≡◌, ◌≤◌, length, map};
 ghost use Rattle.text.specs.Text.{joined, decimal, signed_decimal};
 ghost use Rattle.column.specs.Line.{most_lines, unpacked};
-ghost use Rattle.column.specs.Seen.{column_seen};
 ghost use Rattle.sheet_lines.specs.Form.{effect_keys};
-ghost use Rattle.sheet.specs.Keeps.{EffectsWithin};
-ghost use Rattle.sheet_writer.specs.inner.Parts.{line_parts, floors_parts, effects_parts, sheet_from, sheet_parts};
+ghost use Rattle.sheet.specs.Seen.{sheet_seen};
+ghost use Rattle.sheet_writer.specs.inner.Parts.{line_parts, floors_parts, effects_parts, sheet_parts};
 
 use crate::lines::held_numbers;
-use column::{ColumnRef, Line};
+use column::Line;
 use newtons::signed;
-use sheet_lines::EFFECTS;
+use sheet::SheetRef;
 
 // The digits of a number.
 fn decimal_length(n: u64) -> usize
@@ -50,23 +49,21 @@ fn lines_length(numbers: &[u64]) -> usize
 }
 
 // The bytes of the six effects: their keys, their numbers and the newlines.
-fn effects_length(effects: [i64; EFFECTS]) -> usize
-    requires { EffectsWithin effects }
-    ensures { (result ≡ length (joined (effects_parts effect_keys effects))) × (result ≤ 163) }
+fn effects_length(sheet: SheetRef<'_>) -> usize
+    ensures { (result ≡ length (joined (effects_parts effect_keys sheet.entry.effects))) × (result ≤ 163) }
 {
     let mut total = 37;
-    for newtons in effects {
+    for newtons in sheet.effects {
         total += signed_length(newtons);
     }
     total
 }
 
-// The bytes of the sheet of a column and six effects.
-pub fn sheet_length(column: ColumnRef<'_>, effects: [i64; EFFECTS]) -> usize
-    requires { EffectsWithin effects }
-    ensures { result ≡ length (joined (sheet_parts (sheet_from (column_seen column.entry) effects))) }
+// The bytes of a sheet.
+pub fn sheet_length(sheet: SheetRef<'_>) -> usize
+    ensures { result ≡ length (joined (sheet_parts (sheet_seen sheet.entry))) }
 {
-    let code = column.member.code;
+    let code = sheet.column.member.code;
     let first = decimal_length(code as u64) + 8;
-    first + lines_length(held_numbers(column)) + effects_length(effects)
+    first + lines_length(held_numbers(sheet.column)) + effects_length(sheet)
 }

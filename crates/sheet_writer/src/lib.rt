@@ -6,14 +6,14 @@ ghost use Rattle.io.specs.Counts.{IsPrefixLen};
 ghost use Rattle.text.specs.Put.{fronted};
 ghost use Rattle.refusal.specs.Said.{gives, told};
 ghost use Rattle.column.specs.Seen.{column_seen};
-ghost use Rattle.sheet.specs.Keeps.{EffectsWithin};
+ghost use Rattle.sheet.specs.Seen.{sheet_seen};
 ghost use Rattle.sheet_text.specs.Written.{written};
 ghost use Rattle.sheet_writer.specs.Saving.{six_checked, if_whole, if_room, saving, saved_text, sized};
-ghost use Rattle.sheet_writer.specs.inner.Parts.{sheet_from};
 
 use column::ColumnRef;
 use effects::LoadEffect;
 use refusal::{Refusal, Refused};
+use sheet::SheetRef;
 use sheet_lines::EFFECTS;
 
 mod lengths;
@@ -68,33 +68,26 @@ fn whole_effects(effects: SheetDoubles) -> Result<[i64; EFFECTS], Refused<Option
 
 // Whether a buffer of so many bytes has room for a sheet. One that suffices for every sheet is not held
 // against this one.
-fn fits(column: ColumnRef<'_>, effects: [i64; EFFECTS], room: usize) -> bool
-    requires { EffectsWithin effects }
-    ensures { result ≡ leb (length (written (sheet_from (column_seen column.entry) effects))) room }
+fn fits(sheet: SheetRef<'_>, room: usize) -> bool
+    ensures { result ≡ leb (length (written (sheet_seen sheet.entry))) room }
 {
     let suffices = room >= ROOM;
-    suffices || lengths::sheet_length(column, effects) <= room
+    suffices || lengths::sheet_length(sheet) <= room
 }
 
-// Writes a sheet whose effects are whole and within their limits; the buffer is as it was where it is too
-// short.
-fn write_whole(
-    column: ColumnRef<'_>,
-    effects: [i64; EFFECTS],
-    out: &mut [u8],
-) -> Result<usize, Refused<Option<Placed>>>
-    requires { EffectsWithin effects }
-    ensures value { told result ≡ sized (if_room (length out.old) (written (sheet_from (column_seen column.entry) effects))) }
-    ensures out_after { out.new ≡ fronted (saved_text (if_room (length out.old) (written (sheet_from (column_seen column.entry) effects)))) out.old }
+// Writes a sheet; the buffer is as it was where it is too short.
+fn write_whole(sheet: SheetRef<'_>, out: &mut [u8]) -> Result<usize, Refused<Option<Placed>>>
+    ensures answered { told result ≡ sized (if_room (length out.old) (written (sheet_seen sheet.entry))) }
+    ensures put { out.new ≡ fronted (saved_text (if_room (length out.old) (written (sheet_seen sheet.entry)))) out.old }
     ensures prefix_len { IfOk result (λ n. IsPrefixLen n out.new) }
 {
-    if !fits(column, effects, out.len()) {
+    if !fits(sheet, out.len()) {
         return Err(Refused {
             refusal: Refusal::BufferTooShort,
             back: None,
         });
     }
-    Ok(lines::put_sheet(out, column, effects))
+    Ok(lines::put_sheet(out, sheet))
 }
 
 // Writes the sheet of a column and six effects to the front of a buffer, and gives how many bytes that is. Where an
@@ -104,10 +97,11 @@ pub fn write(
     effects: SheetDoubles,
     out: &mut [u8],
 ) -> Result<usize, Refused<Option<Placed>>>
-    ensures value { told result ≡ sized (saving (column_seen column.entry) effects (length out.old)) }
-    ensures out_after { out.new ≡ fronted (saved_text (saving (column_seen column.entry) effects (length out.old))) out.old }
+    ensures answered { told result ≡ sized (saving (column_seen column.entry) effects (length out.old)) }
+    ensures put { out.new ≡ fronted (saved_text (saving (column_seen column.entry) effects (length out.old))) out.old }
     ensures prefix_len { IfOk result (λ n. IsPrefixLen n out.new) }
 {
-    let whole = whole_effects(effects)?;
-    write_whole(column, whole, out)
+    let effects = whole_effects(effects)?;
+    let sheet = SheetRef { column, effects };
+    write_whole(sheet, out)
 }

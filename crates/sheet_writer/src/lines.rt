@@ -2,13 +2,12 @@
 ghost use Rattle.std.specs.Prelude.{◌≡◌, ◌≤◌, length, map, take};
 ghost use Rattle.text.specs.Put.{out, puts, put};
 ghost use Rattle.column.specs.Line.{most_lines, unpacked};
-ghost use Rattle.column.specs.Seen.{column_seen};
 ghost use Rattle.sheet_lines.specs.Form.{effect_keys};
-ghost use Rattle.sheet.specs.Keeps.{EffectsWithin};
-ghost use Rattle.sheet_writer.specs.inner.Parts.{member_parts, line_parts, floors_parts, effect_parts, effects_parts, sheet_from, sheet_parts};
+ghost use Rattle.sheet.specs.Seen.{sheet_seen};
+ghost use Rattle.sheet_writer.specs.inner.Parts.{member_parts, line_parts, floors_parts, effect_parts, effects_parts, sheet_parts};
 
 use column::{ColumnRef, Line, Member};
-use sheet_lines::EFFECTS;
+use sheet::SheetRef;
 use text::Output;
 
 // Puts the member's line.
@@ -63,11 +62,10 @@ fn put_effect(output: &mut Output, key: &[u8], newtons: i64)
 }
 
 // Puts the six effects of a sheet.
-fn put_effects(output: &mut Output, effects: [i64; EFFECTS])
-    requires { EffectsWithin effects }
-    ensures { output.new ≡ put output.old (effects_parts effect_keys effects) }
+fn put_effects(output: &mut Output, sheet: SheetRef<'_>)
+    ensures { output.new ≡ put output.old (effects_parts effect_keys sheet.entry.effects) }
 {
-    let [dead, roof, snow, rain, wind, quake] = effects;
+    let [dead, roof, snow, rain, wind, quake] = sheet.effects;
     put_effect(output, b"dead=", dead);
     put_effect(output, b"roof=", roof);
     put_effect(output, b"snow=", snow);
@@ -76,15 +74,14 @@ fn put_effects(output: &mut Output, effects: [i64; EFFECTS])
     put_effect(output, b"quake=", quake);
 }
 
-// Puts the sheet of a column and six effects at the front of a buffer.
+// Puts a sheet at the front of a buffer.
 #[tactic(auto, unfolding(text::specs::Put::put))]
-pub fn put_sheet(to: &mut [u8], column: ColumnRef<'_>, effects: [i64; EFFECTS]) -> usize
-    requires { EffectsWithin effects }
-    ensures { out to.new result ≡ puts to.old 0 (sheet_parts (sheet_from (column_seen column.entry) effects)) }
+pub fn put_sheet(to: &mut [u8], sheet: SheetRef<'_>) -> usize
+    ensures { out to.new result ≡ puts to.old 0 (sheet_parts (sheet_seen sheet.entry)) }
 {
     let mut output = Output { buffer: to, at: 0 };
-    put_member(&mut output, column.member);
-    put_lines(&mut output, held_numbers(column));
-    put_effects(&mut output, effects);
+    put_member(&mut output, sheet.column.member);
+    put_lines(&mut output, held_numbers(sheet.column));
+    put_effects(&mut output, sheet);
     output.at
 }

@@ -5,15 +5,11 @@ use Rattle.text.specs.Text.{signed_parts}
 use Rattle.text.specs.Put.{field_parts}
 use Rattle.text.specs.Lines.{newline}
 use Rattle.column.specs.declared.Line.{Line}
-use Rattle.column.specs.declared.Column.{Column}
 use Rattle.column.specs.Column.{lines_of}
 use Rattle.sheet_lines.specs.Form.{member_keys, floor_keys, effect_keys}
 use Rattle.sheet_lines.specs.LineText.{line_numbers}
 use Rattle.sheet.specs.declared.Sheet.{Sheet}
 
--- the sheet of a column and six effects
-abbrev pub sheet_from : Column → List ℤ → Sheet
-sheet_from c zs = record { column = c; effects = zs }
 
 -- the member's line, a floor line and all of them
 unfoldable pub member_parts : ℕ → List (List ℕ)

@@ -5,9 +5,9 @@ use Rattle.exports.proofs.sheets.bungero_write.Goals as goal
 
 pub returns-in-Ok-clause-value : goal.returns-in-Ok-clause-value
 unfolding of_bits
-returns-in-Ok-clause-value c = written_is _ c.in-Ok.ensures.value
+returns-in-Ok-clause-value c = written_is _ c.in-Ok.ensures.answered
 
 pub returns-in-Err-clause-value : goal.returns-in-Err-clause-value
 unfolding of_bits
 returns-in-Err-clause-value c =
-    rw (c.number.ensures, c.unwrap_or-effect.ensures) (refused_is _ c.in-Err.field-0 c.in-Err.ensures.value)
+    rw (c.number.ensures, c.unwrap_or-effect.ensures) (refused_is _ c.in-Err.field-0 c.in-Err.ensures.answered)

@@ -11,8 +11,8 @@ use Rattle.sheet_writer.proofs.lengths.sheet_length.Goals as goal
 pub returns : goal.returns
 unfolding sheet_parts lines_of
 returns c =
-    let code = c.args.column.member.code in
-    let fs = floors_parts (map unpacked (take c.args.column.count c.args.column.held.now)) in
-    let es = effects_parts effect_keys c.args.effects in
+    let code = c.args.sheet.column.member.code in
+    let fs = floors_parts (map unpacked (take c.args.sheet.column.count c.args.sheet.column.held.now)) in
+    let es = effects_parts effect_keys c.args.sheet.effects in
     let lines = rw c.held_numbers.ensures.value at c.lines_length.ensures.0 in
     omega (arith, joined_length (member_parts code) (fs ++ es), joined_length fs es, member_length code, c.decimal_length-first.ensures.0, lines, c.effects_length.ensures.0)
