@@ -7,7 +7,6 @@ ghost use Rattle.sheet_lines.specs.Form.{effect_keys};
 ghost use Rattle.sheet.specs.Seen.{sheet_seen};
 ghost use Rattle.sheet_writer.specs.inner.Parts.{line_parts, floors_parts, effects_parts, sheet_parts};
 
-use crate::lines::held_numbers;
 use column::Line;
 use newtons::signed;
 use sheet::SheetRef;
@@ -65,5 +64,5 @@ pub fn sheet_length(sheet: SheetRef<'_>) -> usize
 {
     let code = sheet.column.member.code;
     let first = decimal_length(code as u64) + 8;
-    first + lines_length(held_numbers(sheet.column)) + effects_length(sheet)
+    first + lines_length(sheet.column.numbers()) + effects_length(sheet)
 }

@@ -1,12 +1,12 @@
 // The lines of a sheet, put into a buffer.
-ghost use Rattle.std.specs.Prelude.{◌≡◌, ◌≤◌, length, map, take};
+ghost use Rattle.std.specs.Prelude.{◌≡◌, map};
 ghost use Rattle.text.specs.Put.{out, puts, put};
-ghost use Rattle.column.specs.Line.{most_lines, unpacked};
+ghost use Rattle.column.specs.Line.{unpacked};
 ghost use Rattle.sheet_lines.specs.Form.{effect_keys};
 ghost use Rattle.sheet.specs.Seen.{sheet_seen};
 ghost use Rattle.sheet_writer.specs.inner.Parts.{member_parts, line_parts, floors_parts, effect_parts, effects_parts, sheet_parts};
 
-use column::{ColumnRef, Line, Member};
+use column::{Line, Member};
 use sheet::SheetRef;
 use text::Output;
 
@@ -29,15 +29,6 @@ fn put_line(output: &mut Output, line: Line)
         (b" load=", line.load),
         (b" area=", line.area.0),
     ]);
-}
-
-// The numbers that hold the lines of a column.
-pub fn held_numbers(column: ColumnRef<'_>) -> &[u64]
-    ensures value { result.now ≡ take column.entry.count column.entry.held.now }
-    ensures few { length result.now ≤ most_lines }
-{
-    let held = column.held;
-    &held[..column.count as usize]
 }
 
 // Puts the floor lines that these numbers hold, in order.
@@ -81,7 +72,7 @@ pub fn put_sheet(to: &mut [u8], sheet: SheetRef<'_>) -> usize
 {
     let mut output = Output { buffer: to, at: 0 };
     put_member(&mut output, sheet.column.member);
-    put_lines(&mut output, held_numbers(sheet.column));
+    put_lines(&mut output, sheet.column.numbers());
     put_effects(&mut output, sheet);
     output.at
 }
