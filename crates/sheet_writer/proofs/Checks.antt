@@ -1,6 +1,6 @@
 -- The six effects of a sheet, each checked as it is read off its double; and what writing gives by that check.
 -- Assumes nothing.
-use Rattle.std.proofs.Common.{◌≡◌, sym, ap, true, false, List, ℕ, leb, length, ℤ, Option, Some, None, Ok, Err, Float}
+use Rattle.std.proofs.Common.{◌≡◌, sym, ap, true, false, List, ℕ, leb, length, ℤ, Option, Some, None, Ok, Err}
 use Rattle.std.specs.Prelude.{unwrap_or}
 use Rattle.refusal.specs.declared.Refused.{Refused}
 use Rattle.refusal.specs.Refusal.{number_of}

@@ -10,7 +10,6 @@ use Rattle.sheet_lines.specs.Form.{member_keys, floor_keys, effect_keys}
 use Rattle.sheet_lines.specs.LineText.{line_numbers}
 use Rattle.sheet.specs.declared.Sheet.{Sheet}
 
-
 -- the member's line, a floor line and all of them
 unfoldable pub member_parts : ℕ → List (List ℕ)
 member_parts code = field_parts member_keys (code ∷ [])
