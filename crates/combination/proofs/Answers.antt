@@ -1,6 +1,6 @@
 -- What holds of every answer: the doubles keep their sums, the rows govern, and the first beyond the limit is named. Assumes nothing.
 use Rattle.std.proofs.Common.{◌≡◌, refl, ◌∙◌, ap, Bool, true, false, not, cond, List, [], ◌∷◌, zero, suc, ◌^◌, ◌≤◌, ◌<◌, le_trans, arith, lit≤, ℤ, nat_abs, Float, length, le-leb, leb-true}
-use mathlib.Core.Path.{subst⁻¹}
+use Rattle.std.proofs.Math.Path.{subst⁻¹}
 use Rattle.std.specs.Prelude.{map, Option, Some, None}
 use Rattle.std.specs.List.{find}
 use Rattle.effects.specs.declared.Load.{Load}

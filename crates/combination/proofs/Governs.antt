@@ -1,6 +1,6 @@
 -- The search for the row that governs: its steps, and what it finds. Assumes nothing.
 use Rattle.std.proofs.Common.{◌≡◌, refl, sym, ◌∙◌, ap, subst, Bool, true, false, true≢false, not, cond, ⊎_elim, List, [], ◌∷◌, ℕ, zero, suc, ◌+◌, ◌-◌, ◌≤◌, ◌<◌, eq-or-lt_of_le, le_of_suc-le-suc, not-suc-le-zero, add-one, arith, T, ℤ, pos, negsuc, nat_abs, length, get_or, drop, drop_of_length-le, drop-cons, le-ltb, ltb-true}
-use lib.Signed.{lt_z, lt_z_no, <ℤ-≤ℤ_trans}
+use Rattle.std.specs.Int.Signed.{lt_z, lt_z_no, <ℤ-≤ℤ_trans}
 use Rattle.effects.specs.inner.Sized.{EachAtMost}
 use Rattle.combination.specs.Governing.{greater, less, Best, better, best_from, best}
 use Rattle.combination.specs.theorems.Governs.{GovernsFirst, Governs}

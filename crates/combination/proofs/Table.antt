@@ -1,6 +1,6 @@
 -- The table of factors: one computed test over the whole. Assumes nothing.
 use Rattle.std.proofs.Common.{◌≡◌, refl, sym, ◌∙◌, subst, List, [], ℕ, ◌≤◌, ◌<◌, arith, T, ℤ, pos, nat_abs, length, get_or}
-use lib.ListN.{length-map, get_or-map}
+use Rattle.std.proofs.Math.ListN.{length-map, get_or-map}
 use Rattle.effects.specs.Check.{place_of}
 use Rattle.newtons.specs.Effect.{limit}
 use Rattle.effects.specs.inner.Sized.{EachAtMost, Seven}
@@ -37,4 +37,4 @@ sums_some xs = omega (arith, sums_length xs)
 pub sums_small : (xs : List ℤ) → Seven limit xs → EachAtMost most_sum (sums xs)
 sums_small xs X =
     each_below (sums xs)
-    (λ i h. subst (λ (z : ℤ). nat_abs z ≤ most_sum) (sym (sum_at xs i)) (sum_small (get_or factors i []) xs (row_fits i (omega (arith, sums_length xs))) X 0))
+    (λ i h. subst (λ (z : ℤ). nat_abs z ≤ most_sum) (sym (sum_at xs i)) (sum_small (get_or factors i []) xs (row_fits i (omega (arith, sums_length xs))) X))

@@ -1,6 +1,5 @@
 -- `combination::search::sum_at` meets its contract: a row of the table is the definition's, and fits. Assumes nothing.
-use Rattle.std.proofs.Common.{sym, ◌∙◌, w64, rules}
-use mir.ValLaws.{to_z-of_z}
+use Rattle.std.proofs.Common.{rules}
 use Rattle.combination.proofs.Table.{row_fits, sum_at}
 use Rattle.combination.proofs.search.sum_at.Goals as goal
 
@@ -8,6 +7,4 @@ pub sum_of-requires : goal.sum_of-requires
 sum_of-requires c = rw c.requires.table (row_fits c.args.row c.requires.row)
 
 pub returns : goal.returns
-returns c =
-    to_z-of_z w64 c.sum_of.result (search rules)
-    ∙ (c.sum_of.ensures ∙ rw c.requires.table (sym (sum_at c.args.effects.newtons c.args.row)))
+returns c = rw sum_at (search rules)

@@ -1,6 +1,6 @@
 -- `combination::search::sum_of` meets its contract: with the products that are left the sum is that of the row. Assumes nothing.
 use Rattle.std.proofs.Common.{◌≡◌, suc, ◌+◌, ◌*◌, ◌≤◌, sym, ◌∙◌, ap, arith, ⊎_elim, inl, inr, ℤ, ◌+ℤ◌, ◌*ℤ◌, nat_abs, length, lit<, w64, to_z, of_z}
-use lib.IntN.{+ℤ_assoc, +ℤ_idr}
+use Rattle.std.proofs.Math.IntN.{+ℤ_assoc, +ℤ_idr}
 use Rattle.std.specs.Iterator.Adapters.{zip_second}
 use Rattle.std.specs.Slice.Iter.{iter_rest}
 use Rattle.newtons.proofs.Word.{small_fits, kept}
