@@ -1,7 +1,7 @@
 -- The check of the seven effects, one step over any of them. Assumes nothing.
 use Rattle.std.proofs.Common.{◌≡◌, refl, subst, List, [], ◌∷◌, ◌++◌, ℕ, zero, suc, ◌+◌, ◌<◌, ◌≤◌, le_trans, arith, lit≤, ℤ, nat_abs, Float, length, length-append, drop, get_or}
 use Rattle.std.proofs.lemmas.List.{drop_more}
-use lib.Ieee.{binary64, of_int}
+use Rattle.std.specs.Float.Ieee.{binary64, of_int}
 use Rattle.effects.specs.declared.PerLoad.{PerLoad}
 use Rattle.effects.specs.declared.LoadEffect.{LoadEffect}
 use Rattle.std.specs.Prelude.{Ok, Err}

@@ -1,6 +1,6 @@
 -- Seven numbers that 64 bits keep. Assumes nothing.
 use Rattle.std.proofs.Common.{Bool, true, ◌&&◌, List, [], ◌∷◌, ℕ, zero, suc, zero-le, ◌≤◌, ◌<◌, arith, T, leb, eqb, leb→le, le→leb, eqb→eq, ℤ, pos, nat_abs, length, get_or}
-use lib.Ieee.Fits.{and_l, and_r}
+use Rattle.std.specs.Float.Ieee.Fits.{and_l, and_r}
 use Rattle.effects.specs.inner.Sized.{EachAtMost, Seven}
 
 -- ---- seven numbers, each at most so large in size

@@ -1,7 +1,7 @@
 -- Laws of the factor K.
 -- Assumes nothing.
 use Rattle.std.proofs.Common.{◌≡◌, refl, ap, Bool, true, ◌&&◌, List, [], ◌∷◌, ℕ, zero, suc, ◌-◌, ◌≤◌, arith, leb, get_or, leb-true}
-use mathlib.Core.Bool.{and-eq-true_iff}
+use Rattle.std.proofs.lemmas.Bool.{and_parts}
 use Rattle.refusal.specs.Said.{gives}
 use Rattle.member.specs.Between.{between}
 use Rattle.member.specs.Member.{table4_2, table_factor, factor_of}
@@ -19,16 +19,16 @@ most m (k ∷ ks) = leb k m && most m ks
 row_most : (m : ℕ) (ks : List ℕ) (n : ℕ) → most m ks ≡ true → get_or ks n 0 ≤ m
 unfolding most
 row_most m [] n e = omega arith
-row_most m (k ∷ ks) zero e = leb-true k m ((and-eq-true_iff (leb k m) (most m ks)).0 e).0
-row_most m (k ∷ ks) (suc n) e = row_most m ks n ((and-eq-true_iff (leb k m) (most m ks)).0 e).1
+row_most m (k ∷ ks) zero e = leb-true k m (and_parts (leb k m) (most m ks) e).0
+row_most m (k ∷ ks) (suc n) e = row_most m ks n (and_parts (leb k m) (most m ks) e).1
 
 -- no factor is above 4
 pub factor_most : (code : ℕ) → table_factor code ≤ 4
 unfolding table_factor table4_2 most
 factor_most code = row_most 4 (0 ∷ table4_2) code refl
 
--- K of a code stands in the row before it, counted from 0
-pub factor_row : (code : ℕ) → 1 ≤ code → get_or table4_2 (code - 1) 0 ≡ table_factor code
-unfolding table_factor
-factor_row zero h = absurd (omega arith)
-factor_row (suc n) h = ap (λ (k : ℕ). get_or table4_2 k 0) (omega arith)
+-- K of a code 1 to 12 stands in the row before it, counted from 0
+pub factor_row : (code : ℕ) → between 1 12 code ≡ true → gives (get_or table4_2 (code - 1) 0) ≡ factor_of code
+unfolding factor_of table_factor
+factor_row zero h = cc
+factor_row (suc n) h = rw h (ap (λ (k : ℕ). gives (get_or table4_2 k 0)) (omega arith))

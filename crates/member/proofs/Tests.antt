@@ -1,7 +1,7 @@
 -- What the answer of a test that was called says of the numbers.
 -- Assumes nothing.
 use Rattle.std.proofs.Common.{◌≡◌, sym, ◌∙◌, Bool, true, false, ℕ, ◌≤◌, leb-true, le-leb, leb}
-use mathlib.Core.Bool.{and-eq-true_iff}
+use Rattle.std.proofs.lemmas.Bool.{and_parts}
 use Rattle.member.specs.Between.{between}
 
 -- a call b of the test t, and the branch on it that was taken
@@ -14,7 +14,7 @@ failed e h = sym e ∙ h
 -- a number between limits
 pub limits : (low high n : ℕ) → between low high n ≡ true → (low ≤ n) × (n ≤ high)
 limits low high n h =
-    let both = (and-eq-true_iff (leb low n) (leb n high)).0 h in
+    let both = and_parts (leb low n) (leb n high) h in
     (leb-true _ _ both.0, leb-true _ _ both.1)
 
 pub in_limits : (low high n : ℕ) → low ≤ n → n ≤ high → between low high n ≡ true

@@ -19,6 +19,7 @@ pub struct TributaryArea(pub u64);
 const FACTORS: [u64; 12] = [4, 4, 3, 2, 2, 2, 1, 1, 1, 1, 1, 1];
 
 // The factor K of a member's code; refused where there is no such code.
+#[tactic(auto, unfolding(crate::specs::Member::factor_of, crate::specs::Member::table4_2, refusal::specs::Said::said, refusal::specs::Refusal::number_of), using(crate::proofs::Member::factor_row))]
 pub fn factor(code: u64) -> Result<u64, Refusal>
     ensures { said result ≡ factor_of code }
 {

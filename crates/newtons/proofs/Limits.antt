@@ -1,7 +1,7 @@
 -- From the value of a double to what is handed on and to the effect, and what an effect that is given keeps. Assumes nothing.
 use Rattle.std.proofs.Common.{◌≡◌, refl, sym, ap, ◌∙◌, subst, Bool, true, false, cond, ℕ, ◌^◌, ◌≤◌, ◌<◌, arith, T, leb, ltb, leb→le, ℤ, nat_abs, Float, le-leb, lt-ltb, le-ltb, ltb-false}
 use Rattle.std.specs.Prelude.{Option, Some, None}
-use borrow.Author.Tests.{lt-leb}
+use Rattle.std.proofs.lemmas.Bool.{lt-leb}
 use Rattle.refusal.specs.Said.{Told, Said, gives, refused, nothing}
 use Rattle.newtons.specs.Effect.{Value, whole, not_whole, signed, value_of, held_of, limit, within, limited, effect_of}
 use Rattle.newtons.proofs.Word.{size_neg}

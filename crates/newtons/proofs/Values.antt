@@ -1,12 +1,12 @@
 -- The value of a double, from the fields of its bits, and back from a whole number. Assumes nothing.
 use Rattle.std.proofs.Common.{◌≡◌, refl, sym, ap, ◌∙◌, subst, Bool, true, false, cond, ℕ, zero, suc, ◌+◌, ◌-◌, ◌*◌, ◌/◌, ◌%◌, ◌^◌, ◌≤◌, ◌<◌, zero-lt-suc, mod-lt, mod-eq_of_lt, div-one, lt_of_lt_of_le, mul-le-mul, mul_assoc, mul_right_comm, mul-one, add-zero, div-add-mod', arith, T, leb, eqb, eqb→eq, le→leb, lt→ltb, lit<, lit≤, ℤ, pos, negsuc, nat_abs, pow_pos, pow-add, pow_mono, Float, to_bits, eq-eqb, ne_eqb}
-use native.Mathlib.Nat.{mod-one, mul-mod_left, eq_of_mul-eq-mul_right}
-use lib.Ieee.{nan, inf, fin, binary64, up, down, odd, of_fields, of_bits, fits, is_nan, in_float, of_int, round}
-use lib.Ieee.Fits.{down_pos}
-use lib.Ieee.Nearest.{div_same}
-use lib.Ieee.Bits.{of_bits-to_bits}
-use lib.Ieee.Back.{round_whole}
-use lib.Ieee.Exact.{HasValue, odd_sign}
+use Rattle.std.proofs.Math.Nat.{mod-one, mul-mod_left, eq_of_mul-eq-mul_right}
+use Rattle.std.specs.Float.Ieee.{nan, inf, fin, binary64, up, down, odd, of_fields, of_bits, fits, is_nan, in_float, of_int, round}
+use Rattle.std.specs.Float.Ieee.Fits.{down_pos}
+use Rattle.std.specs.Float.Ieee.Nearest.{div_same}
+use Rattle.std.specs.Float.Ieee.Bits.{of_bits-to_bits}
+use Rattle.std.specs.Float.Ieee.Back.{round_whole}
+use Rattle.std.specs.Float.Ieee.Exact.{HasValue, odd_sign}
 use Rattle.newtons.specs.Effect.{whole, not_whole, signed, fraction, value_of}
 
 -- ---- equal fractions have one value

@@ -1,7 +1,7 @@
 -- The size of a number, and those that a word of 64 bits keeps. Assumes nothing.
 use Rattle.std.proofs.Common.{◌≡◌, refl, ℕ, zero, suc, ◌^◌, ◌≤◌, ◌<◌, le_refl, lt_of_le_of_lt, arith, ℤ, pos, negsuc, neg_ℤ, nat_abs, w64, SFits, to_z, of_z}
-use lib.Signed.{mag}
-use mir.ValLaws.{to_z-of_z}
+use Rattle.std.specs.Int.Signed.{mag}
+use Rattle.std.proofs.lemmas.Int.{to_z-of_z}
 
 -- ---- the size of a number, and those that 64 bits keep
 

@@ -4,7 +4,7 @@ use Rattle.std.proofs.lemmas.List.{take_more_set, take_all, drop_all}
 use Rattle.std.proofs.lemmas.Result.{err_from_is_err_and}
 use Rattle.refusal.specs.Said.{told}
 use Rattle.effects.specs.Check.{checked_from}
-use mir.ValLaws.{to_z-of_z}
+use Rattle.std.proofs.lemmas.Int.{to_z-of_z}
 use Rattle.effects.proofs.Checks.{goes_on, ends}
 use Rattle.effects.proofs.check_each.Goals as goal
 

@@ -1,6 +1,6 @@
 -- `newtons::is_within` meets its contract: the magnitude is that of the number handed over. Assumes nothing.
 use Rattle.std.proofs.Common.{◌∙◌, ap, ℕ, leb, w64}
-use mir.Facts.{to_z-of_z}
+use Rattle.std.proofs.Common.{to_z-of_z}
 use Rattle.newtons.specs.Effect.{magnitude_of, limit}
 use Rattle.newtons.proofs.is_within.Goals as goal
 

@@ -1,10 +1,10 @@
 -- `newtons::value_of` meets its contract: each way out is one law of values, at the fields of the bits. Assumes nothing.
 use Rattle.std.proofs.Common.{◌≡◌, sym, ◌∙◌, ap, subst, true, false, ℕ, zero, suc, ◌+◌, ◌-◌, ◌*◌, ◌/◌, ◌%◌, ◌^◌, ◌≤◌, ◌<◌, one-mul, div-le_self, lt_of_le_of_lt, lt_of_lt_of_le, arith, leb, lit<, lit≤, pow_pos, shl_exact, ℤ, pos, neg_ℤ, ◌-ℤ◌, Float, to_bits, w64, SFits, to_z, rules, le-leb}
-use lib.IntN.{+ℤ_idl}
-use lib.Ieee.{binary64}
+use Rattle.std.proofs.Math.IntN.{+ℤ_idl}
+use Rattle.std.specs.Float.Ieee.{binary64}
 use Rattle.std.specs.Prelude.{Some}
-use mir.ValLaws.{to_z-of_z, to_z_pos}
-use borrow.Author.Tests.{lt-leb}
+use Rattle.std.proofs.lemmas.Int.{to_z-of_z, to_z_pos}
+use Rattle.std.proofs.lemmas.Bool.{lt-leb}
 use Rattle.refusal.specs.Refusal.{number_of}
 use Rattle.refusal.specs.Said.{gives, said}
 use Rattle.newtons.specs.Effect.{signed}

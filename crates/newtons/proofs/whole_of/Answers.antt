@@ -1,6 +1,6 @@
 -- `newtons::whole_of` meets its contract: what is handed on decides, a whole number by the limit. Assumes nothing.
 use Rattle.std.proofs.Common.{◌≡◌, sym, ◌∙◌, ap, Bool, cond, ℕ, ℤ, Float, rules, Option, Some, None, w64, to_z, of_z}
-use mir.ValLaws.{to_z-of_z}
+use Rattle.std.proofs.lemmas.Int.{to_z-of_z}
 use Rattle.refusal.specs.Refusal.{number_of}
 use Rattle.refusal.specs.Said.{Said, gives, refused, nothing, said}
 use Rattle.newtons.specs.Effect.{Value, whole, not_whole, value_of, held_of, within, effect_of, said_effect}

@@ -1,5 +1,5 @@
 -- `sheet_writer::whole_effects` meets its contract: a refused effect comes back as one that is there. Assumes nothing.
-use Rattle.std.proofs.Common.{◌≡◌, ◌∙◌, refl, ap, rules, Some}
+use Rattle.std.proofs.Common.{◌≡◌, ◌∙◌, refl, ap, rules, [], ◌∷◌, Some}
 use Rattle.refusal.specs.Said.{told, gives}
 use Rattle.refusal.proofs.Mapped.{told_mapped}
 use Rattle.sheet_writer.specs.Saving.{six_listed, six_checked, if_whole}
@@ -9,7 +9,10 @@ use Rattle.sheet_writer.proofs.whole_effects.Goals.{After-check_each}
 -- what is checked are the effects as listed
 tells : (c : After-check_each) → told c.check_each.result ≡ six_checked c.args.effects
 unfolding six_checked six_listed
-tells c = rw (← c.new.ensures, ← c.new-2.ensures, ← c.new-3.ensures, ← c.new-4.ensures, ← c.new-5.ensures, ← c.new-6.ensures) c.check_each.ensures
+tells c = c.check_each.ensures ∙ ap (λ es. checked_from [] es) list
+  where
+    list : (c.new.result ∷ c.new-2.result ∷ c.new-3.result ∷ c.new-4.result ∷ c.new-5.result ∷ c.new-6.result ∷ []) ≡ six_listed c.args.effects
+    list = rw (c.new.ensures, c.new-2.ensures, c.new-3.ensures, c.new-4.ensures, c.new-5.ensures, c.new-6.ensures)
 
 pub returns : goal.returns
 unfolding if_whole
