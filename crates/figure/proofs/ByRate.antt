@@ -15,7 +15,7 @@ use Rattle.reduction.specs.Scale.{root_scale, scale_of}
 use Rattle.reduction.specs.inner.ShareBounds.{Fit}
 use Rattle.reduction.proofs.Shares.{other_within}
 use Rattle.reduction.proofs.Twentieths.{share_formula, share_other, clamped_is, twentieths_least}
-use Rattle.reduction.proofs.Fits.{formula_class, formula_fits, share_fits, fit_twentieths, fit_root, fit_load}
+use Rattle.reduction.proofs.Fits.{formula_class, formula_load_lem, formula_fits, share_fits, fit_twentieths, fit_root, fit_load}
 use Rattle.reduction.proofs.Scales.{Scaled, root_scaled, scale_most, root_is}
 use Rattle.column.specs.declared.Line.{Line}
 use Rattle.column.specs.Line.{unpacked, key_of}
@@ -143,6 +143,13 @@ module _ (s : Shares) (l : Line) (ok : InLimits l) where
       → (r * l.area.0 ≡ figure_by s l) × (r * l.area.0 ≤ 10000000000)
   unfolding is_formula_line line_figure
   figure_formula e q = figure_most (rw (q, formula_class l.load l.class e))
+
+  pub formula_most : is_formula_line l ≡ true → l.load ≤ 5000
+  unfolding is_formula_line
+  formula_most e = formula_load_lem l.load l.class e
+
+  pub other_most : l.load * (twentieths_rate (other_twentieths l.class s.carried.floors)).times ≤ 3355444000000
+  other_most = mul-le-mul ok.load.1 (twentieths_small _ (other_within l.class s.carried.floors).1).times
 
   pub figure_other : is_formula_line l ≡ false → {t : ℕ} → t ≡ (twentieths_rate (other_twentieths l.class s.carried.floors)).times
       → let r = (l.load * t + 63753436) / 67108864 in (r * l.area.0 ≡ figure_by s l) × (r * l.area.0 ≤ 10000000000)

@@ -47,6 +47,7 @@ const FORMULA_LAST: u64 = 70536;
 const ASSEMBLY_FIRST: u64 = 196608;
 
 // X of a member and an area. A column's member has a code, so its factor is never refused.
+#[tactic(auto, unfolding(crate::specs::Carried::influence_from), using(refusal::proofs::Said::gives_it, refusal::proofs::Said::gives_ok, member::proofs::Member::factor_known, member::proofs::Member::factor_most))]
 fn influence_of(member: Member, area: TributaryArea) -> InfluenceArea
     requires { (between 1 12 member.code ≡ true) × (area.0 ≤ 51200000) }
     ensures { result ≡ influence_from member area.0 }
@@ -69,7 +70,7 @@ fn twentieths_rate(twentieths: u64) -> Rate
 }
 
 // The rate of the formula lines' share. The root is in doubt by one of its scale.
-#[tactic(auto, unfolding(crate::specs::inner::Rates::rate_of, crate::specs::inner::Rates::root_rate))]
+#[tactic(auto, unfolding(crate::specs::inner::Rates::root_rate), using(crate::proofs::ByRate::rate_clamped, crate::proofs::ByRate::rate_root, reduction::proofs::Twentieths::clamped_most, reduction::proofs::Scales::root_where))]
 fn formula_rate(carried: Carried) -> Rate
     ensures { result ≡ rate_of carried.floors carried.influence }
 {
@@ -85,6 +86,7 @@ fn formula_rate(carried: Carried) -> Rate
 }
 
 // The shares at so many floors, where the formula lines have this area.
+#[tactic(auto, unfolding(crate::specs::inner::Rates::twentieths_rate), using(reduction::proofs::Shares::heavy_within))]
 pub fn shares_at(member: Member, floors: u64, area: TributaryArea) -> Shares
     requires { (between 1 12 member.code ≡ true) × (area.0 ≤ 51200000) }
     ensures { SharesOf floors (influence_from member area.0) result }
@@ -100,6 +102,7 @@ pub fn shares_at(member: Member, floors: u64, area: TributaryArea) -> Shares
 }
 
 // R of a formula line by a search, which few lines need. Its class and load are within their limits, so it is never refused.
+#[tactic(auto, using(refusal::proofs::Said::gives_it, refusal::proofs::Said::gives_ok, member::proofs::Tests::in_limits, reduction::proofs::Reduced::reduced_known))]
 #[cold]
 #[inline(never)]
 fn searched_load(load: u64, shares: Shares) -> u64
@@ -110,7 +113,7 @@ fn searched_load(load: u64, shares: Shares) -> u64
 }
 
 // R of a formula line.
-#[tactic(auto, using(crate::proofs::ByRate::times_most, crate::proofs::ByRate::low_most, crate::proofs::ByRate::doubts_most))]
+#[tactic(auto, using(crate::proofs::ByRate::times_most, crate::proofs::ByRate::low_most, crate::proofs::ByRate::doubts_most, crate::proofs::ByRate::formula_by))]
 fn formula_load(load: u64, shares: Shares) -> u64
     requires { (1 ≤ load) × (load ≤ 5000) }
     ensures { result ≡ formula_load shares load }
@@ -126,6 +129,7 @@ fn formula_load(load: u64, shares: Shares) -> u64
 
 impl HeldLine {
     // `times` of a line that the formula is not for: class 3 has the whole load.
+    #[tactic(auto, unfolding(crate::specs::inner::Rates::twentieths_rate), using(crate::proofs::ByRate::key_other, crate::proofs::ByRate::key_assembly))]
     fn other_times(self, shares: Shares) -> u64
         ensures { result ≡ (twentieths_rate (other_twentieths (unpacked self.number).class shares.carried.floors)).times }
     {
@@ -136,6 +140,7 @@ impl HeldLine {
     }
 
     // Whether it is a formula line: class 1 and a load of at most 5,000.
+    #[tactic(auto, using(crate::proofs::ByRate::key_formula))]
     pub fn is_formula(self) -> bool
         ensures { result ≡ is_formula_line (unpacked self.number) }
     {
@@ -143,6 +148,7 @@ impl HeldLine {
     }
 
     // R × area.
+    #[tactic(auto, using(crate::proofs::ByRate::figure_other, crate::proofs::ByRate::other_most, crate::proofs::ByRate::formula_most))]
     pub fn figure(self, shares: Shares) -> u64
         ensures { (result ≡ figure_by shares (unpacked self.number)) × (result ≤ 10000000000) }
     {

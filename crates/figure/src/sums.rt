@@ -23,7 +23,8 @@ impl HeldLine {
 
 impl<'a> Lines<'a> {
     // The formula lines' area. By the sum of an iterator this and the next take longer, and asking 256 lines is above plain
-    // Rust, which the loop is not.
+    // Rust, which the loop is not. One loop over a function would ask, in three clauses, what it gives at each line and how
+    // large that is, which is longer than the two loops.
     #[tactic(auto, using(crate::proofs::HeldLines::line_within, crate::proofs::HeldLines::lines_few, std::proofs::lemmas::List::Sums::sum_by_more))]
     pub fn area(self) -> TributaryArea
         ensures { (result.0 ≡ areas self.entry.numbers.now) × (result.0 ≤ 51200000) }
