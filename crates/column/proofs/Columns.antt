@@ -1,9 +1,7 @@
 -- A column is the column of its member and its lines: reading them back, and one line more.
 -- Assumes nothing.
 use Rattle.std.proofs.Common.{◌≡◌, refl, sym, ◌∙◌, ap, List, [], ◌∷◌, ◌++◌, map, append_assoc, ℕ, suc, ◌+◌, ◌-◌, ◌≤◌, ◌<◌, arith, length, take, set, replicate, length-append, take_at}
-use mathlib.Core.List.{map-append}
-use lib.ListN.{length-map, length-replicate}
-use lib.Seq.{set_at}
+use Rattle.std.proofs.lemmas.List.{map-append, length-map, length-replicate, set_at}
 use Rattle.lists.specs.Lists.{All, none, more}
 use Rattle.lists.proofs.Lists.{all_more, all_so}
 use Rattle.column.specs.declared.Line.{Line}

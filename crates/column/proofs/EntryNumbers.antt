@@ -1,7 +1,7 @@
 -- An entry has one of the numbers for entering a line, or 0, and so neither that of opening nor that of asking.
 -- Assumes nothing.
 use Rattle.std.proofs.Common.{◌≡◌, refl, sym, ◌∙◌, ap, Bool, true, false, cond, not, ◌||◌, List, ◌∷◌, ℕ, leb, ltb, eqb, length}
-use mathlib.Core.Bool.{false≢true}
+use Rattle.std.proofs.lemmas.Bool.{false≢true}
 use Rattle.lists.specs.Lists.{some}
 use Rattle.lists.proofs.Tests.{cases}
 use Rattle.member.specs.Between.{between}

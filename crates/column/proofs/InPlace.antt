@@ -1,16 +1,16 @@
 -- Entering in place, where the floor of the last line is known, is entering on the column that the parts make.
 -- Assumes nothing.
-use Rattle.std.proofs.Common.{◌≡◌, sym, ◌∙◌, ap, List, [], ◌∷◌, ◌++◌, ℕ, ◌+◌, ◌≤◌, ◌<◌, length, slice_set, arith}
+use Rattle.std.proofs.Common.{◌≡◌, sym, ◌∙◌, ap, subst, List, [], ◌∷◌, ◌++◌, ℕ, ◌+◌, ◌≤◌, ◌<◌, length, slice_set, arith}
 use Rattle.column.specs.declared.Line.{Line}
 use Rattle.column.specs.declared.Member.{Member}
 use Rattle.column.specs.declared.Column.{Column}
 use Rattle.column.specs.Accepted.{last_floor, first_condition, entry_number}
-use Rattle.column.specs.Column.{lines_of, column_of, column_from, entered_of, Reached}
+use Rattle.column.specs.Column.{Outcome, lines_of, column_of, column_from, entered_of, Reached}
 use Rattle.column.specs.Line.{packed}
 use Rattle.column.specs.inner.Sound.{InLimits, Held}
 use Rattle.column.proofs.Columns.{column_more}
 use Rattle.column.proofs.Lines.{lines_length}
-use Rattle.column.proofs.Reach.{no_condition, entered_accepted, entered_refused, sound, reached_is}
+use Rattle.column.proofs.Reach.{no_condition, entered_accepted, entered_refused, sound, reached_is, reached_entered}
 
 module _ {m : Member} {n : ℕ} {places : List ℕ} (reached : Reached (column_from m n places)) where
   col : Column
@@ -51,3 +51,7 @@ module _ {m : Member} {n : ℕ} {places : List ℕ} (reached : Reached (column_f
         let put : column_from m (n + 1) (slice_set places n (packed l)) ≡ column_of m (lines_of col ++ (l ∷ [])) =
         ap (λ (d : Column). column_from m (d.count + 1) (slice_set d.held d.count (packed l))) (reached_is reached) ∙ column_more m (lines_of col) l few in
         rw put (sym (entered_accepted col l (sym (is ∙ entry))))
+
+    -- so the column that the parts then make is reached
+    pub joined_reached : 0 ≡ first_condition m n last l → Reached (column_from m (n + 1) (slice_set places n (packed l)))
+    joined_reached is = subst Reached (ap (λ (o : Outcome). o.column) (sym (joined_in_place is))) (reached_entered l reached)

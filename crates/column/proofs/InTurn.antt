@@ -1,7 +1,7 @@
 -- The lines of a reached column are accepted in turn, each with the lines before it held.
 -- Assumes nothing.
 use Rattle.std.proofs.Common.{List, []}
-use mathlib.Core.Path.{subst⁻¹}
+use Rattle.std.proofs.Math.Path.{subst⁻¹}
 use Rattle.column.specs.declared.Line.{Line}
 use Rattle.column.specs.declared.Member.{Member}
 use Rattle.column.specs.declared.Column.{Column}

@@ -1,9 +1,8 @@
 -- The lines of a column: as many as it counts, those between two places, and the last of them.
 -- Assumes nothing.
 use Rattle.std.proofs.Common.{◌≡◌, refl, sym, ◌∙◌, ap, List, [], ◌∷◌, ◌++◌, map, ℕ, suc, ◌-◌, ◌≤◌, ◌<◌, arith, length, take, drop, take-append-drop, length-take-le, take-take}
-use mathlib.Core.List.{map-append}
-use lib.ListN.{length-map}
-use lib.Seq.{slice, slice_empty, slice-cons, drop-append-le}
+use Rattle.std.proofs.Math.Seq.{slice, slice_empty, slice-cons}
+use Rattle.std.proofs.lemmas.List.{map-append, length-map, drop-append-le}
 use Rattle.column.specs.declared.Line.{Line}
 use Rattle.column.specs.declared.Column.{Column}
 use Rattle.column.specs.Line.{unpacked}

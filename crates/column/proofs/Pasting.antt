@@ -1,7 +1,7 @@
 -- Pasting is entering, one line after another, up to and with the first refused one.
 -- Assumes nothing.
 use Rattle.std.proofs.Common.{◌≡◌, refl, sym, ◌∙◌, ap, subst, List, [], ◌∷◌, ◌++◌, append-nil, ◌⊎◌, inl, inr, ℕ, suc, ◌+◌, ◌≤◌, arith, length, take, length-append, take_at, take_all}
-use lib.Seq.{append_snoc}
+use Rattle.std.proofs.Math.Seq.{append_snoc}
 use Rattle.refusal.proofs.Said.{by_number, not_zero}
 use Rattle.column.specs.declared.Line.{Line}
 use Rattle.column.specs.declared.Column.{Column}

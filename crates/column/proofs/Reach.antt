@@ -1,18 +1,17 @@
 -- A column that opening and entering gave: it is the column of the accepted lines, and they are within their limits.
 -- Assumes nothing.
-use Rattle.std.proofs.Common.{◌≡◌, refl, sym, ◌∙◌, ap, Bool, true, false, cond, not, ◌||◌, List, [], ◌∷◌, ◌++◌, ℕ, ◌+◌, ◌≤◌, ◌<◌, arith, leb, ltb, eqb, length, length-append, leb-false, ltb-false, eqb-true, ne_eqb}
-use mathlib.Core.Path.{subst⁻¹}
-use mathlib.Core.Bool.{false≢true}
-use borrow.Author.Tests.{not-false}
+use Rattle.std.proofs.Common.{◌≡◌, refl, sym, ◌∙◌, ap, Bool, true, false, cond, not, ◌||◌, List, [], ◌∷◌, ◌++◌, ℕ, ◌+◌, ◌≤◌, ◌<◌, arith, Result, Ok, leb, ltb, eqb, length, length-append, leb-false, ltb-false, eqb-true, ne_eqb}
+use Rattle.std.proofs.Math.Path.{subst⁻¹}
+use Rattle.std.proofs.lemmas.Bool.{false≢true, not-false}
 use Rattle.member.specs.Between.{between}
 use Rattle.lists.specs.Lists.{All, none}
 use Rattle.member.proofs.Tests.{limits}
+use Rattle.refusal.specs.declared.Refusal.{Refusal}
 use Rattle.column.specs.declared.Line.{Line}
 use Rattle.column.specs.declared.Member.{Member}
 use Rattle.column.specs.declared.Column.{Column}
-use Rattle.column.specs.Column.{Outcome}
 use Rattle.column.specs.Accepted.{last_floor, first_condition, entry_number, joined, accepted_from, accepted}
-use Rattle.column.specs.Column.{lines_of, column_of, unopened, opened_of, entered_of, after, Reached}
+use Rattle.column.specs.Column.{Outcome, lines_of, column_of, unopened, opened_of, opened_as, entered_of, after, Reached}
 use Rattle.column.specs.inner.Sound.{InLimits, Sound}
 use Rattle.column.specs.theorems.InTurn.{Holdable}
 use Rattle.lists.proofs.Lists.{all_more}
@@ -240,3 +239,8 @@ entered_stays c l h = ap (λ (o : Outcome). o.column) (entered_refused c l (entr
 pub given_reached : {c : Column} (m : Member) → record { number = 0; column = c } ≡ opened_of m → Reached c
 given_reached m e =
     subst⁻¹ Reached (ap (λ (o : Outcome). o.column) e) (reached_opened m (sym (ap (λ (o : Outcome). o.number) e)))
+
+-- and so is that of a member that was opened
+pub opened_reached : (m : Member) {a : Result Member Refusal} {k : Member} → opened_as (λ j. column_of j []) a ≡ opened_of m → a ≡ Ok k → Reached (column_of k [])
+unfolding opened_as
+opened_reached m e is = given_reached m (rw is at e)

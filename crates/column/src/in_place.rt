@@ -17,6 +17,7 @@ pub struct PastedLines {
 }
 
 // Enters a line where the floor of the last line is known.
+#[tactic(auto, unfolding(crate::specs::Column::entered_outcome, crate::specs::Column::count_after, refusal::specs::Said::number_told), using(crate::proofs::InPlace::refused_in_place, crate::proofs::InPlace::joined_in_place, refusal::proofs::Said::number_positive))]
 fn enter_below(
     held: &mut Places,
     member: Member,
@@ -25,7 +26,7 @@ fn enter_below(
     line: Line,
 ) -> Result<u16, Refusal>
     requires reached { Reached (column_from member count held.old) }
-    requires last_value { last ≡ last_floor (lines_of (column_from member count held.old)) }
+    requires last { last ≡ last_floor (lines_of (column_from member count held.old)) }
     ensures entered { entered_outcome member count result held.new ≡ entered_of (column_from member count held.old) line }
     ensures reached { Reached (column_from member (count_after count result) held.new) }
 {
@@ -36,6 +37,7 @@ fn enter_below(
 
 // Enters a line, and gives how many are then held; refused, with the places as they were, where a condition for
 // entering a line holds.
+#[tactic(auto, unfolding(crate::specs::Column::lines_of))]
 pub fn enter(held: &mut Places, member: Member, count: u16, line: Line) -> Result<u16, Refusal>
     requires { Reached (column_from member count held.old) }
     ensures entered { entered_outcome member count result held.new ≡ entered_of (column_from member count held.old) line }

@@ -89,6 +89,7 @@ impl Member {
 
 impl Column {
     // The column of a member with this code, without lines; refused where there is no such code.
+    #[tactic(auto, unfolding(crate::specs::Column::opened_as, crate::specs::Column::column_of))]
     pub fn open(code: u64) -> Result<Column, Refusal>
         ensures opened { opened_as (λ c. c) result ≡ opened_of (member_of code) }
         ensures reached { IfOk result Reached }
@@ -102,6 +103,7 @@ impl Column {
     }
 
     // Enters a line; refused, with the column as it was, where a condition for entering a line holds.
+    #[tactic(auto, unfolding(crate::specs::Column::entered_outcome, crate::specs::Column::count_after, refusal::specs::Said::number_told))]
     pub fn enter(&mut self, line: Line) -> Result<(), Refusal>
         requires { Reached self.old }
         ensures entered { record { number = number_told result; column = self.new } ≡ entered_of self.old line }

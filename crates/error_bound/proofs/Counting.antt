@@ -9,9 +9,8 @@ use Rattle.refusal.proofs.Said.{by_number, not_zero, number_positive}
 use Rattle.column.specs.declared.Line.{Line}
 use Rattle.column.specs.declared.Member.{Member}
 use Rattle.column.specs.declared.Column.{Column}
-use Rattle.column.specs.Column.{Outcome}
 use Rattle.column.specs.Accepted.{entry_number, joined}
-use Rattle.column.specs.Column.{column_of, opened_of, entered_of, after}
+use Rattle.column.specs.Column.{Outcome, column_of, opened_of, entered_of, after}
 use Rattle.column.specs.theorems.InTurn.{Holdable}
 use Rattle.column.proofs.Reach.{holdable_none, entered_column, joined_holdable, opened_column}
 use Rattle.error_bound.specs.Entries.{RefusedEntries, refusals_told, numbers_from, refused_count, first_number, first_place, refusals_of, refusals_after}
@@ -79,16 +78,17 @@ module _ (m : Member) where
       ∙ ap (λ (ns : List ℕ). entry_number m ls e ∷ ns) (numbers_from_lem (joined m ls e) es (joined_holdable m ls e h))
 
   -- what is told of entering on an opened column is what the definition tells
-  pub refusals_opened : (es : List Line) → (opened_of m).number ≡ 0 → refusals_of (numbers_on (opened_of m).column es) ≡ refusals_after m es
+  pub refusals_opened : {c : Column} (es : List Line) → record { number = 0; column = c } ≡ opened_of m → refusals_of (numbers_on c es) ≡ refusals_after m es
   unfolding refusals_after
-  refusals_opened es h =
-      ap (λ (c : Column). refusals_of (numbers_on c es)) (opened_column m h)
-      ∙ (ap refusals_of (numbers_from_lem [] es holdable_none) ∙ rw h)
+  refusals_opened es e =
+      let opened = sym (ap (λ (o : Outcome). o.number) e) in
+      ap (λ (c : Column). refusals_of (numbers_on c es)) (ap (λ (o : Outcome). o.column) e ∙ opened_column m opened)
+      ∙ (ap refusals_of (numbers_from_lem [] es holdable_none) ∙ rw opened)
 
   -- and nothing where opening is refused
-  pub refusals_refused : (es : List Line) (n : ℕ) → 1 ≤ n → n ≡ (opened_of m).number → no_refusals ≡ refusals_after m es
+  pub refusals_refused : {c : Column} (es : List Line) (r : Refusal) → record { number = number_of r; column = c } ≡ opened_of m → no_refusals ≡ refusals_after m es
   unfolding refusals_after refusals_of refused_count first_number first_place
-  refusals_refused es n h e = rw (← e, not_zero h)
+  refusals_refused es r e = rw (← e, not_zero (number_positive r))
 
 -- one entry more is counted and noted, and the others follow
 pub next_entry : (c d : Column) (l : Line) (es : List Line) (n place : ℕ) (p : RefusedEntries) {q : RefusedEntries} → record { number = n; column = d } ≡ entered_of c l → q ≡ noted_of p n place

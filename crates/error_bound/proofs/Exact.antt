@@ -1,8 +1,8 @@
 -- The bounds of demand 3: the rounding, proved once over the share, for one line, and sums of it over the lines carried.
 -- Assumes nothing.
 use Rattle.std.proofs.Common.{◌≡◌, refl, sym, ◌∙◌, Bool, true, false, cond, not, ◌&&◌, List, [], ◌∷◌, ◌⊎◌, inl, inr, ⊎_elim, ℕ, zero, suc, ◌+◌, ◌*◌, ◌-◌, ◌≤◌, ◌<◌, mul_assoc, mul_comm, mul-add, mul-pos, mul-le-mul_right, mul-lt-mul_of_pos_right, add-zero, zero-add, mul-zero, zero-mul, suc-mul, arith, leb, eqb, leb-true, leb-false, eqb-true}
-use mathlib.Core.Bool.{and-eq-true_iff}
-use native.Mathlib.Nat.{mul-sub}
+use Rattle.std.proofs.Math.Bool.{and-eq-true_iff}
+use Rattle.std.proofs.Math.Nat.{mul-sub}
 use Rattle.reduction.specs.declared.InfluenceArea.{InfluenceArea}
 use Rattle.reduction.specs.declared.share.Share.{Share}
 use Rattle.reduction.specs.declared.share.Share.TheVariants.{Twentieths, Root}

@@ -1,6 +1,6 @@
 -- Demand 3 after every mixture of single entries and pastes.
 -- Assumes nothing.
-use mathlib.Core.Path.{subst⁻¹}
+use Rattle.std.proofs.Math.Path.{subst⁻¹}
 use Rattle.column.specs.declared.Column.{Column}
 use Rattle.column.specs.Accepted.{accepted}
 use Rattle.column.specs.Column.{opened_of}

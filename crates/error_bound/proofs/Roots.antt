@@ -1,8 +1,8 @@
 -- Sums of comparisons with a square root, made on squares: x g² against u² stands for g √x against u.
 -- Assumes nothing.
 use Rattle.std.proofs.Common.{◌≡◌, sym, ◌∙◌, ap, ◌⊎◌, inl, inr, ℕ, ◌+◌, ◌*◌, ◌-◌, ◌≤◌, ◌<◌, mul_comm, mul-add, add-mul, mul-le-mul, mul-le-mul_left, mul-lt-mul_of_pos_right, le_of_lt, lt_of_lt_of_le, lt_of_le_of_lt, lt_of_not-le, arith}
-use native.Mathlib.Nat.{mul-mul-mul_comm}
-use native.Mathlib.Decide.{dec_le}
+use Rattle.std.proofs.Math.Decide.{dec_le}
+use Rattle.std.proofs.Math.Nat.{mul-mul-mul_comm}
 use Rattle.reduction.specs.Least.{sq}
 use Rattle.reduction.proofs.Squares.{sq_le, sq_le⁻¹, sq_lt⁻¹}
 

@@ -72,13 +72,14 @@ fn enter_all(column: &mut Column, entries: &[u64]) -> Refusals
 // Opens a member, enters every entry of a list of numbers, four an entry, going on past refused ones,
 // and asks at a floor; tells too which were refused. One to three numbers left over at the end of the list
 // are no entry.
+#[tactic(auto, unfolding(column::specs::Column::opened_as), using(crate::proofs::Counting::refusals_opened))]
 pub fn figure_after(code: u64, entries: &[u64], floor: u64) -> AfterList
-    ensures asked_value { (said result.asked ≡ asked_after (member_of code) (entries_of entries.now) floor) × Claim (member_of code) (accepted (member_of code) (entries_of entries.now)) floor (said result.asked) }
-    ensures refusals_value { refusals_told result.refusals ≡ refusals_after (member_of code) (entries_of entries.now) }
+    ensures asked { said result.asked ≡ asked_after (member_of code) (entries_of entries.now) floor }
+    ensures claim { Claim (member_of code) (accepted (member_of code) (entries_of entries.now)) floor (said result.asked) }
+    ensures refusals { refusals_told result.refusals ≡ refusals_after (member_of code) (entries_of entries.now) }
 {
     match Column::open(code) {
-        Ok(opened) => {
-            let mut column = opened;
+        Ok(mut column) => {
             let refusals = enter_all(&mut column, entries);
             AfterList {
                 asked: figure::ask_in(column.lend(), floor),

@@ -1,8 +1,8 @@
 -- The list call gives what opening the member, entering the lines and asking give, and its figure is within the bounds.
 -- Assumes nothing.
 use Rattle.std.proofs.Common.{◌≡◌, refl, sym, ◌∙◌, ap, Bool, true, false, cond, ◌||◌, List, [], ◌∷◌, ◌++◌, append-nil, ◌⊎◌, inl, inr, ℕ, ◌+◌, ◌≤◌, arith, eqb, length, ne_eqb}
-use mathlib.Core.Path.{subst⁻¹}
-use lib.Seq.{append_snoc}
+use Rattle.std.proofs.Math.Path.{subst⁻¹}
+use Rattle.std.proofs.Math.Seq.{append_snoc}
 use Rattle.lists.proofs.Tests.{cases}
 use Rattle.refusal.specs.Said.{Told, gives, refused, nothing}
 use Rattle.refusal.proofs.Said.{by_number, not_zero}

@@ -8,8 +8,7 @@ use Rattle.column.specs.declared.Line.{Line}
 use Rattle.column.specs.declared.Member.{Member}
 use Rattle.column.specs.declared.Column.{Column}
 use Rattle.column.specs.Accepted.{entry_number}
-use Rattle.column.specs.Column.{Outcome}
-use Rattle.column.specs.Column.{column_of, opened_of, entered_of}
+use Rattle.column.specs.Column.{Outcome, column_of, opened_of, entered_of}
 use Rattle.column.proofs.Columns.{column_lines}
 use Rattle.column.specs.theorems.InTurn.{Holdable}
 use Rattle.column.proofs.Reach.{holdable_none, holdable_more, entered_refused, opened_code, opened_column, opened_refused}

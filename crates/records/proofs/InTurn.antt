@@ -9,9 +9,8 @@ use Rattle.refusal.proofs.Said.{by_number, not_zero, number_positive}
 use Rattle.column.specs.declared.Line.{Line}
 use Rattle.column.specs.declared.Member.{Member}
 use Rattle.column.specs.declared.Column.{Column}
-use Rattle.column.specs.Column.{Outcome}
 use Rattle.column.specs.Accepted.{entry_number}
-use Rattle.column.specs.Column.{column_of, opened_of, opened_as, entered_of}
+use Rattle.column.specs.Column.{Outcome, column_of, opened_of, opened_as, entered_of}
 use Rattle.column.proofs.Columns.{column_lines}
 use Rattle.column.specs.theorems.InTurn.{Holdable}
 use Rattle.column.proofs.Reach.{holdable_none, holdable_more, opened_column}

@@ -1,6 +1,7 @@
 -- `column::in_place::paste` meets its contract: pasting what is left gives what pasting all from the start gives. Assumes nothing.
-use Rattle.std.proofs.Common.{◌≡◌, refl, sym, ◌∙◌, ap, List, ℕ, ◌+◌, ◌-◌, ◌≤◌, arith, Result, Ok}
+use Rattle.std.proofs.Common.{◌≡◌, refl, sym, ◌∙◌, ap, List, ℕ, ◌+◌, ◌-◌, ◌≤◌, arith, Result, Ok, Err}
 use Rattle.refusal.specs.declared.Refusal.{Refusal}
+use Rattle.refusal.specs.Refusal.{number_of}
 use Rattle.refusal.specs.Said.{number_told}
 use Rattle.refusal.proofs.Said.{number_positive}
 use Rattle.column.specs.declared.Member.{Member}
@@ -16,11 +17,15 @@ use Rattle.column.proofs.in_place.paste.Goals as goal
 beside : {count filled : ℕ} → count ≤ filled → count + (filled - count) ≡ filled
 beside h = omega arith
 
--- what entering gave where the line was kept
-kept : (m : Member) (n : ℕ) {next : ℕ} {r : Result ℕ Refusal} {places : List ℕ} {o : Outcome} → entered_outcome m n r places ≡ o → Reached (column_from m (count_after n r) places) → r ≡ Ok next
-    → (record { number = 0; column = column_from m next places } ≡ o) × Reached (column_from m next places)
-unfolding entered_outcome number_told count_after
-kept m n e reached is = (rw is at e, rw is at reached)
+-- what entering a line gave, where it was kept and where it was refused
+module _ (m : Member) (n : ℕ) {r : Result ℕ Refusal} {places : List ℕ} {o : Outcome} (entered : entered_outcome m n r places ≡ o) (reached : Reached (column_from m (count_after n r) places)) where
+  kept : {next : ℕ} → r ≡ Ok next → (record { number = 0; column = column_from m next places } ≡ o) × Reached (column_from m next places)
+  unfolding entered_outcome number_told count_after
+  kept is = (rw is at entered, rw is at reached)
+
+  stopped : {refusal : Refusal} → r ≡ Err refusal → (record { number = number_of refusal; column = column_from m n places } ≡ o) × Reached (column_from m n places)
+  unfolding entered_outcome number_told count_after
+  stopped is = (rw is at entered, rw is at reached)
 
 pub last_floor_of-last-requires : goal.last_floor_of-last-requires
 last_floor_of-last-requires c = reached_held c.requires
@@ -37,14 +42,16 @@ loop-line-init c =
     }
 
 pub enter_below-entered-requires : goal.enter_below-entered-requires
-enter_below-entered-requires c = record { reached = c.loop-line.invariant.reached; last_value = c.loop-line.invariant.last }
+enter_below-entered-requires c = record { reached = c.loop-line.invariant.reached; last = c.loop-line.invariant.last }
 
 pub returns-in-Err : goal.returns-in-Err
-unfolding paste_outcome number_or_0 entered_outcome number_told count_after
+unfolding paste_outcome number_or_0
 returns-in-Err c =
+    let entered = c.enter_below-entered.ensures in
+    let now = stopped c.args.member c.loop-line.filled entered.entered entered.reached c.in-Err.is in
     rw (beside c.loop-line.invariant.filled) (record {
-      pasted = pasted_end _ _ _ _ _ c.in-Err.ensures.entered (number_positive c.in-Err.refusal) ∙ (rw c.in-Some.ensures.steps at c.loop-line.invariant.pasted);
-      reached = c.in-Err.ensures.reached;
+      pasted = pasted_end _ _ _ _ _ now.0 (number_positive c.in-Err.refusal) ∙ (rw c.in-Some.ensures.steps at c.loop-line.invariant.pasted);
+      reached = now.1;
     })
 
 pub loop-line-preserved : goal.loop-line-preserved
