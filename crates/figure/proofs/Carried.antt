@@ -62,13 +62,7 @@ unfolding has_floor some
 has_front f [] a = has_none f a
 has_front f (l ∷ ls) a = ap (λ (b : Bool). eqb l.floor f || b) (has_front f ls a)
 
--- the floor of one of the lines
-pub has_in : (ls : List Line) (l : Line) (ks : List Line) → has_floor l.floor (ls ++ (l ∷ ks)) ≡ true
-unfolding has_floor some
-has_in [] l ks = rw (eq-eqb l.floor l.floor refl)
-has_in (k ∷ ls) l ks = rw (has_in ls l ks) (or-true (eqb k.floor l.floor))
-
--- and of a line at a place
+-- the floor of a line at a place
 pub has_at : (f : ℕ) (ns : List ℕ) (k d : ℕ) → k < length ns → (unpacked (get_or ns k d)).floor ≡ f → has_floor f (map unpacked ns) ≡ true
 unfolding has_floor some
 has_at f [] k d h e = absurd (omega arith)

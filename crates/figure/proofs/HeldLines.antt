@@ -90,13 +90,12 @@ pub ordered_drop : (k : ℕ) (ns : List ℕ) → Ordered (map unpacked ns) → O
 ordered_drop k ns o = ordered_back (map unpacked (take k ns)) (rw (split_at k ns) at o)
 
 -- and those that stand together from a place on
-pub lined_run : (l : Lines) (k : ℕ) (run back : List ℕ) → drop k l.numbers.now ≡ run ++ back → Lined run
-lined_run l k run back is =
-    rw (is, take-append_seam run back) at (lined_take (length run) (drop k l.numbers.now) (lined_drop k l.numbers.now (lines_lined l)))
-
-pub ordered_run : (l : Lines) (k : ℕ) (run back : List ℕ) → drop k l.numbers.now ≡ run ++ back → Ordered (map unpacked run)
-ordered_run l k run back is =
-    rw (is, take-append_seam run back) at (ordered_take (length run) (drop k l.numbers.now) (ordered_drop k l.numbers.now (lines_ordered l)))
+pub run_held : (l : Lines) (k : ℕ) (run back : List ℕ) → drop k l.numbers.now ≡ run ++ back → Lined run × Ordered (map unpacked run)
+run_held l k run back is =
+    let ns = drop k l.numbers.now in
+    let first : Lined (take (length run) ns) × Ordered (map unpacked (take (length run) ns)) =
+    (lined_take (length run) ns (lined_drop k _ (lines_lined l)), ordered_take (length run) ns (ordered_drop k _ (lines_ordered l))) in
+    rw (is, take-append_seam run back) at first
 
 -- ---- sums
 

@@ -5,7 +5,7 @@ use Rattle.column.specs.Seen.{column_seen}
 use Rattle.column.proofs.Reach.{sound}
 use Rattle.column.proofs.Seen.{seen_reached}
 use Rattle.figure.specs.inner.Descent.{left, RunAt}
-use Rattle.figure.proofs.HeldLines.{lined_run, ordered_run}
+use Rattle.figure.proofs.HeldLines.{run_held}
 use Rattle.figure.proofs.Workings.{passed_none, passed_length}
 use Rattle.figure.proofs.Walk.{same_floor, run_at, rest_after, all_passed, all_summed, lower_floor, next_put}
 use Rattle.figure.proofs.descent.work_out_all.Goals as goal
@@ -36,8 +36,8 @@ new c =
 
 pub invariant_of-next : goal.invariant_of-next
 invariant_of-next c =
-    let s = split (goal.at.invariant_of-next c).In-Some in
-    record { lined = ∣ lined_run c.of-lines.result _ _ _ s ∣₁; ordered = ∣ ordered_run c.of-lines.result _ _ _ s ∣₁ }
+    let h = run_held c.of-lines.result _ _ _ (split (goal.at.invariant_of-next c).In-Some) in
+    record { lined = ∣ h.0 ∣₁; ordered = ∣ h.1 ∣₁ }
 
 pub next-here-requires : goal.next-here-requires
 next-here-requires c = (c.loop-new.invariant.0, new (goal.at.next-here-requires c).In-Some)
