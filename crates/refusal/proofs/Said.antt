@@ -44,9 +44,6 @@ said_injective (Err q) (Err r) e = let same : number_of q ≡ number_of r = cc i
 said_injective (Ok x) (Err r) e = cc
 said_injective (Err q) (Ok y) e = cc
 
-abbrev with_back : {B : Type 0} → Refusal → B → Refused B
-with_back r b = record { refusal = r; back = b }
-
 pub told_injective : {A B : Type 0} (a b : Result A (Refused B)) → told a ≡ told b → a ≡ b
 unfolding told
 told_injective (Ok x) (Ok y) e = cc
@@ -54,8 +51,7 @@ told_injective (Err q) (Err r) e =
     let same : number_of q.refusal ≡ number_of r.refusal = cc in
     let one : q.refusal ≡ r.refusal = number_injective q.refusal r.refusal same in
     let back : q.back ≡ r.back = cc in
-    let whole : with_back q.refusal q.back ≡ with_back r.refusal r.back = cc in
-    ap Err whole
+    rw (one, back)
 told_injective (Ok x) (Err r) e = cc
 told_injective (Err q) (Ok y) e = cc
 
@@ -65,50 +61,28 @@ by_number zero none some = none refl
 by_number (suc n) none some = some (omega arith)
 
 pub positive : {n : ℕ} → (n ≡ 0 → ⊥) → 1 ≤ n
-positive {n} h = by_number n (λ e. absurd (h e)) (λ k. k)
+positive {n} h = omega arith
 
 pub not_zero : {n : ℕ} → 1 ≤ n → eqb n 0 ≡ false
 not_zero {n} h = ne_eqb n 0 (λ q. omega arith)
 
--- an answer that says what it gives, gives that value and is no refusal
-pub gives_it : {A : Type 0} {a : Result A Refusal} {x y : A} → a ≡ Ok x → said a ≡ gives y → x ≡ y
-unfolding said
-gives_it {A} {a} {x} {y} p q =
-    let e : said (Ok x) ≡ gives y = rw p at q in
-    cc
-
-pub gives_not_refused : {A : Type 0} {a : Result A Refusal} {r : Refusal} {y : A} → a ≡ Err r → said a ≡ gives y → ⊥
-unfolding said
-gives_not_refused {A} {a} {r} {y} p q =
-    let e : said {A = A} (Err r) ≡ gives y = rw p at q in
-    cc
-
--- so it is no refusal, and gives that value
+-- an answer that says what it gives is no refusal, and gives that value
 pub is_given : {A : Type 0} (a : Result A Refusal) {y : A} → said a ≡ gives y → a ≡ Ok y
 unfolding said
 is_given (Ok x) {y} q = cc
 is_given (Err r) {y} q = cc
 
+pub gives_it : {A : Type 0} {a : Result A Refusal} {x y : A} → a ≡ Ok x → said a ≡ gives y → x ≡ y
+gives_it {A} {a} p q = let is = is_given a q in cc
+
 pub gives_ok : {A : Type 0} (a : Result A Refusal) {y : A} → said a ≡ gives y → IsOk a
 gives_ok a {y} q = let is : a ≡ Ok y = is_given a q in rw is
 
 -- the same where something comes back
-pub told_gives_it : {A B : Type 0} {a : Result A (Refused B)} {x y : A} → a ≡ Ok x → told a ≡ gives y → x ≡ y
-unfolding told
-told_gives_it {A} {B} {a} {x} {y} p q =
-    let e : told {A = A} {B = B} (Ok x) ≡ gives y = rw p at q in
-    cc
-
-pub told_gives_not_refused : {A B : Type 0} {a : Result A (Refused B)} {r : Refused B} {y : A} → a ≡ Err r → told a ≡ gives y → ⊥
-unfolding told
-told_gives_not_refused {A} {B} {a} {r} {y} p q =
-    let e : told {A = A} (Err r) ≡ gives y = rw p at q in
-    cc
-
 pub told_is_given : {A B : Type 0} (a : Result A (Refused B)) {y : A} → told a ≡ gives y → a ≡ Ok y
 unfolding told
 told_is_given (Ok x) {y} q = cc
 told_is_given (Err r) {y} q = cc
 
-pub told_gives_ok : {A B : Type 0} (a : Result A (Refused B)) {y : A} → told a ≡ gives y → IsOk a
-told_gives_ok a {y} q = let is : a ≡ Ok y = told_is_given a q in rw is
+pub told_gives_it : {A B : Type 0} {a : Result A (Refused B)} {x y : A} → a ≡ Ok x → told a ≡ gives y → x ≡ y
+told_gives_it {A} {B} {a} p q = let is = told_is_given a q in cc
