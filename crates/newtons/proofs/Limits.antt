@@ -51,12 +51,12 @@ effect_within x z h = go (value_of x) h
     go not_whole e = let q : ◌≡◌ {A = ℕ} 0 1 = cc in omega arith
 
 -- 8 and 9 told of what is handed on: a large number is beyond the limit
-unfoldable pub limited_held : Float → Said (Option ℤ) → Told Float ℤ
+unfoldable limited_held : Float → Said (Option ℤ) → Told Float ℤ
 limited_held x (gives (Some z)) = cond (within z) (gives z) (refused 9 x)
 limited_held x (gives None) = refused 9 x
 limited_held x (refused n _) = refused n x
 
-pub effect_held : (x : Float) → effect_of x ≡ limited_held x (held_of (value_of x))
+effect_held : (x : Float) → effect_of x ≡ limited_held x (held_of (value_of x))
 unfolding effect_of limited limited_held held_of
 effect_held x = go (value_of x)
   where
@@ -67,3 +67,29 @@ effect_held x = go (value_of x)
     go : (v : Value) → limited x v ≡ limited_held x (held_of v)
     go (whole z) = test z (ltb (nat_abs z) (2 ^ 53)) refl
     go not_whole = refl
+
+module _ (x : Float) where
+  decides : {t : Said (Option ℤ)} → t ≡ held_of (value_of x) → limited_held x t ≡ effect_of x
+  decides h = ap (limited_held x) h ∙ sym (effect_held x)
+
+  pub held_within : {z : ℤ} → gives (Some z) ≡ held_of (value_of x) → within z ≡ true → gives z ≡ effect_of x
+  unfolding limited_held
+  held_within h w = rw w at (decides h)
+
+  pub held_past : {z : ℤ} → gives (Some z) ≡ held_of (value_of x) → within z ≡ false → refused 9 x ≡ effect_of x
+  unfolding limited_held
+  held_past h w = rw w at (decides h)
+
+  pub held_beyond : gives None ≡ held_of (value_of x) → refused 9 x ≡ effect_of x
+  unfolding limited_held
+  held_beyond h = decides h
+
+  -- a value that is refused is refused with 8
+  eight : (v : Value) {n : ℕ} → refused n nothing ≡ held_of v → n ≡ 8
+  unfolding held_of
+  eight (whole z) e = cc
+  eight not_whole e = cc
+
+  pub held_fraction : {n : ℕ} → refused n nothing ≡ held_of (value_of x) → refused 8 x ≡ effect_of x
+  unfolding limited_held
+  held_fraction h = rw (eight (value_of x) h) at (decides h)

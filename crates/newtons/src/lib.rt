@@ -94,6 +94,7 @@ pub fn value_of(x: f64) -> Result<Option<i64>, Refusal>
 }
 
 // A double as an effect: first whether it is a whole number, then whether that is within the limit.
+#[tactic(auto, unfolding(crate::specs::Effect::said_effect, refusal::specs::Said::said, refusal::specs::Refusal::number_of), using(crate::proofs::Limits::held_within, crate::proofs::Limits::held_past, crate::proofs::Limits::held_beyond, crate::proofs::Limits::held_fraction))]
 pub fn whole_of(x: f64) -> Effect
     ensures { said_effect result ≡ effect_of x }
 {

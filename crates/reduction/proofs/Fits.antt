@@ -1,15 +1,18 @@
 -- The share of every line fits a machine word, and the laws of the reduced load under that.
 -- Assumes nothing.
-use Rattle.std.proofs.Common.{◌≡◌, sym, ◌∙◌, subst, true, false, ℕ, ◌*◌, ◌-◌, ◌≤◌, ◌<◌, mul-le-mul_right, arith, eqb, leb-true, leb-false, le-leb, eqb-true}
+use Rattle.std.proofs.Common.{◌≡◌, refl, sym, ◌∙◌, subst, Bool, true, false, ℕ, ◌*◌, ◌-◌, ◌≤◌, ◌<◌, mul-le-mul_right, arith, eqb, leb-true, leb-false, le-leb, eqb-true}
 use Rattle.std.proofs.Math.Bool.{and-eq-true_iff}
 use Rattle.reduction.specs.declared.InfluenceArea.{InfluenceArea}
 use Rattle.reduction.specs.declared.share.Share.{Share}
 use Rattle.reduction.specs.declared.share.Share.TheVariants.{Twentieths, Root}
 use Rattle.reduction.specs.Least.{sq}
+use Rattle.member.specs.Between.{between}
 use Rattle.member.specs.Line.{is_formula}
-use Rattle.reduction.specs.Share.{root_at_least, root_at_most, least_twentieths, formula_share, share_of}
+use Rattle.reduction.specs.Share.{root_at_least, root_at_most, least_twentieths, formula_share, other_twentieths, share_of}
 use Rattle.reduction.specs.theorems.Rounding.{AtMostOne}
-use Rattle.reduction.specs.Reduced.{reaches, reduced}
+use Rattle.reduction.specs.Reduced.{reaches, reduced, reduced_of}
+use Rattle.refusal.specs.Said.{gives}
+use Rattle.member.proofs.Tests.{limits, in_limits}
 use Rattle.reduction.specs.inner.ShareBounds.{Bounds, Fit}
 use Rattle.reduction.proofs.Squares.{sq_le}
 use Rattle.reduction.proofs.Root.{cap_last}
@@ -48,6 +51,28 @@ share_fits load class n x l =
         (λ _ _. (omega (arith, least_within n), l))
         (λ c h. (root_above x c, root_below n x h, formula_load_lem load class e))
 
+-- that of a formula line is the formula's; it has a reduced load, since its class and its load are within their limits
+pub formula_fit : (load class n : ℕ) (x : InfluenceArea) → is_formula load class ≡ true → Fit (formula_share n x) load
+unfolding share_of
+formula_fit load class n x f = rw f at (share_fits load class n x (omega (arith, formula_load_lem load class f)))
+
+pub formula_reduced : (load class n : ℕ) (x : InfluenceArea) → is_formula load class ≡ true → 0 < load → gives (reduced (formula_share n x) load) ≡ reduced_of load class n x
+unfolding share_of reduced_of
+formula_reduced load class n x f some =
+    let one = formula_class load class f in
+    let most = formula_load_lem load class f in
+    rw (in_limits 1 3 class (omega (arith, one)) (omega (arith, one)), in_limits 1 50000 load (omega arith) (omega (arith, most)), f)
+
+-- a line within its limits that the formula is not for has its twentieths
+pub other_reduced : (load class n : ℕ) → (is_formula load class ≡ true → load ≡ 0) → between 1 3 class ≡ true → between 1 50000 load ≡ true
+    → (x : InfluenceArea) → gives (reduced (Twentieths (other_twentieths class n)) load) ≡ reduced_of load class n x
+unfolding share_of reduced_of
+other_reduced load class n none known within x = rw (known, within, other (is_formula load class) refl)
+  where
+    other : (b : Bool) → is_formula load class ≡ b → b ≡ false
+    other false e = refl
+    other true e = absurd (omega (arith, none e, limits 1 50000 load within))
+
 -- and so does that of the formula lines: a load of 1 has it
 pub formula_fits : (n : ℕ) (x : InfluenceArea) → Fit (formula_share n x) 1
 unfolding share_of is_formula
@@ -74,6 +99,10 @@ fit_twentieths h e = bounds_as h e
 pub fit_root : {s : Share} {load : ℕ} {x : InfluenceArea} → Fit s load → s ≡ Root x → (3713 ≤ x.0) × (x.0 ≤ 92821) × (load ≤ 5000)
 unfolding Bounds
 fit_root h e = bounds_as h e
+
+-- the formula's share is the root only past the cap and before the least share
+pub formula_root : (n : ℕ) (x : InfluenceArea) {y : InfluenceArea} → formula_share n x ≡ Root y → (3713 ≤ y.0) × (y.0 ≤ 92821)
+formula_root n x e = let fits = fit_root (formula_fits n x) e in (fits.0, fits.1)
 
 module _ {s : Share} {load : ℕ} (h : Fit s load) where
   pub fit_load : load ≤ 50000

@@ -1,6 +1,6 @@
 -- The cases of a share, and that no share is above 1.
 -- Assumes nothing.
-use Rattle.std.proofs.Common.{◌≡◌, refl, Bool, true, false, cond, ℕ, ◌≤◌, ◌<◌, le_refl, arith, eqb, le-leb}
+use Rattle.std.proofs.Common.{◌≡◌, refl, ◌∙◌, Bool, true, false, cond, ℕ, ◌≤◌, ◌<◌, le_refl, arith, eqb, le-leb}
 use Rattle.std.proofs.lemmas.Bool.{lt-leb}
 use Rattle.reduction.specs.declared.InfluenceArea.{InfluenceArea}
 use Rattle.reduction.specs.declared.share.Share.{Share}
@@ -8,25 +8,38 @@ use Rattle.reduction.specs.declared.share.Share.TheVariants.{Twentieths, Root}
 use Rattle.reduction.specs.Share.{one_floor, root_at_least, root_at_most, least_twentieths, formula_share, heavy_twentieths, other_twentieths, share_of}
 use Rattle.reduction.specs.theorems.Rounding.{AtMostOne}
 use Rattle.member.specs.Line.{is_formula}
-use Rattle.reduction.proofs.Root.{not_at_least, cap_last}
+use Rattle.reduction.proofs.Root.{not_at_least, cap_last, half_first, two_fifths_first}
 
 -- The share of formula lines: capped at 1; past the cap, where the least share is k/20, that or the root.
 pub formula_capped : (n : ℕ) (x : InfluenceArea) → x.0 ≤ 3712 → Twentieths 20 ≡ formula_share n x
 unfolding formula_share
 formula_capped n x h = rw (cap_last x, le-leb x.0 3712 h)
 
-pub formula_past : (n : ℕ) (x : InfluenceArea) (k : ℕ) (b : Bool) → least_twentieths n ≡ k → 3712 < x.0 → root_at_most k x ≡ b
+formula_past : (n : ℕ) (x : InfluenceArea) (k : ℕ) (b : Bool) → least_twentieths n ≡ k → 3712 < x.0 → root_at_most k x ≡ b
     → cond b (Twentieths k) (Root x) ≡ formula_share n x
 unfolding formula_share
 formula_past n x k b least past h = rw (cap_last x, lt-leb x.0 3712 past, least, h)
 
-pub least_one : (n : ℕ) → n ≤ 1 → least_twentieths n ≡ 10
+least_one : (n : ℕ) → n ≤ 1 → least_twentieths n ≡ 10
 unfolding least_twentieths one_floor
 least_one n h = rw (le-leb n 1 h)
 
-pub least_more : (n : ℕ) → 1 < n → least_twentieths n ≡ 8
+least_more : (n : ℕ) → 1 < n → least_twentieths n ≡ 8
 unfolding least_twentieths one_floor
 least_more n h = rw (lt-leb n 1 h)
+
+module _ (n : ℕ) (x : InfluenceArea) (past : 3712 < x.0) where
+  pub one_held : n ≤ 1 → 33416 ≤ x.0 → Twentieths 10 ≡ formula_share n x
+  one_held one h = formula_past n x 10 true (least_one n one) past (half_first x ∙ le-leb 33416 x.0 h)
+
+  pub one_root : n ≤ 1 → x.0 < 33416 → Root x ≡ formula_share n x
+  one_root one h = formula_past n x 10 false (least_one n one) past (half_first x ∙ lt-leb 33416 x.0 h)
+
+  pub more_held : 1 < n → 92822 ≤ x.0 → Twentieths 8 ≡ formula_share n x
+  more_held more h = formula_past n x 8 true (least_more n more) past (two_fifths_first x ∙ le-leb 92822 x.0 h)
+
+  pub more_root : 1 < n → x.0 < 92822 → Root x ≡ formula_share n x
+  more_root more h = formula_past n x 8 false (least_more n more) past (two_fifths_first x ∙ lt-leb 92822 x.0 h)
 
 -- What holds of the share of formula lines: capped at 1, held at the least share, or the root between them.
 module _ (P : Share → Type 0) (n : ℕ) (x : InfluenceArea) where

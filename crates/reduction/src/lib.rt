@@ -47,6 +47,7 @@ impl Carried {
 
     // The root part of 4 × share in units of 2⁻¹⁹, rounded down, for all formula lines, where their
     // share is not clamped. By it most reduced loads need no search.
+    #[tactic(auto, unfolding(crate::specs::Scale::scale_of, crate::specs::Scale::share_scale), using(crate::proofs::Fits::formula_root, crate::proofs::Scales::scale_most))]
     pub fn root_scale(self) -> Option<u64>
         ensures scale { result ≡ scale_of self.floors self.influence }
         ensures small { IfSome result (λ scale. scale ≤ 1572863) }
@@ -60,6 +61,7 @@ impl Carried {
 
     // The reduced load R of a line; refused where the class or the load is outside its limits. The
     // papers leave 0 floors free: it is then that of one floor.
+    #[tactic(auto, unfolding(refusal::specs::Said::said), using(crate::proofs::Fits::formula_fit, crate::proofs::Fits::formula_reduced))]
     pub fn reduced_load(self, load: u64, class: u64) -> Result<u64, Refusal>
         ensures { said result ≡ reduced_of load class self.floors self.influence }
     {
@@ -95,6 +97,7 @@ fn other_twentieths(class: Class, floors: u64) -> u64
 
 // The reduced load R of a line that the formula is not for, or of one without a load, whatever the influence
 // area; refused where the class or the load is outside its limits.
+#[tactic(auto, unfolding(refusal::specs::Said::said, refusal::specs::Refusal::number_of, crate::specs::Reduced::reduced_of), using(crate::proofs::Fits::other_reduced, crate::proofs::Shares::other_within, crate::proofs::Classes::class_between, member::proofs::Tests::limits))]
 fn other_load(load: u64, class: u64, floors: u64) -> Result<u64, Refusal>
     requires { is_formula load class ≡ true → load ≡ 0 }
     ensures { (x : InfluenceArea) → said result ≡ reduced_of load class floors x }

@@ -8,6 +8,7 @@ use crate::scale::RootArea;
 use crate::share::Share;
 
 // So many twentieths of a load, rounded up.
+#[tactic(auto, using(crate::proofs::Twentieths::twentieths_least))]
 pub fn twentieths_of(k: u64, load: u64) -> u64
     requires { (k ≤ 20) × (load ≤ 50000) }
     ensures { result ≡ reduced (Twentieths k) load }
@@ -31,6 +32,7 @@ const FOUR_UNITS: u64 = 4194304;
 
 impl RootLoad {
     // Whether r is not below the root's share of the load.
+    #[tactic(auto, unfolding(crate::specs::Reduced::reaches))]
     fn reached(self, r: u64) -> bool
         requires { r ≤ self.load }
         ensures { result ≡ reaches (Root self.area.influence) self.load r }
@@ -74,6 +76,7 @@ impl RootLoad {
 }
 
 // The reduced load. Only the root needs a search.
+#[tactic(auto, using(crate::proofs::Fits::fit_twentieths, crate::proofs::Fits::fit_root))]
 pub fn rounded(share: Share, load: u64) -> u64
     requires { Fit share load }
     ensures { result ≡ reduced share load }

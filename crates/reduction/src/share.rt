@@ -20,6 +20,7 @@ const TWO_FIFTHS_FIRST: u64 = 92822;
 
 impl Carried {
     // The share of the formula lines: at most 1, at least 1/2 for one floor and 2/5 for more.
+    #[tactic(auto, using(crate::proofs::Shares::formula_capped, crate::proofs::Shares::one_held, crate::proofs::Shares::one_root, crate::proofs::Shares::more_held, crate::proofs::Shares::more_root))]
     pub(crate) fn formula_share(self) -> Share
         ensures { result ≡ formula_share self.floors self.influence }
     {
