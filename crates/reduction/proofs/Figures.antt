@@ -1,8 +1,7 @@
 -- Every row of the table of figures holds: one computed test over the table, and one law that turns it into what the rows say.
 -- Assumes nothing.
 use Rattle.std.proofs.Common.{◌≡◌, refl, ◌∙◌, ap, Bool, true, false, not, ◌&&◌, List, [], ◌∷◌, ℕ, eqb, eqb-true}
-use Rattle.std.proofs.Math.Bool.{and-eq-true_iff}
-use Rattle.std.proofs.lemmas.Bool.{false≢true, not-true}
+use Rattle.std.proofs.lemmas.Bool.{false≢true, not-true, and_parts}
 use Rattle.refusal.specs.Said.{Said, gives, refused}
 use Rattle.reduction.specs.declared.InfluenceArea.{InfluenceArea}
 use Rattle.reduction.specs.declared.share.Share.TheVariants.{Root}
@@ -38,7 +37,7 @@ says : (q : Row) → right q ≡ true → Says q
 unfolding right Says
 says (row load class n (at x) r) e = is_true r _ e
 says (row load class n any r) e =
-    let both = (and-eq-true_iff _ _).0 e in
+    let both = and_parts _ _ e in
     λ x. any_area load class n x (dm² 0) (not-true _ both.0) ∙ is_true r _ both.1
 says (row load class n (uncapped x) r) e = eqb-true _ _ e
 
@@ -50,7 +49,7 @@ all_say : (qs : List Row) → all_right qs ≡ true → All Says qs
 unfolding all_right
 all_say [] e = none
 all_say (q ∷ qs) e =
-    let both = (and-eq-true_iff _ _).0 e in
+    let both = and_parts _ _ e in
     more (says q both.0) (all_say qs both.1)
 
 computed : all_right figures ≡ true

@@ -1,7 +1,7 @@
 -- The share of every line fits a machine word, and the laws of the reduced load under that.
 -- Assumes nothing.
 use Rattle.std.proofs.Common.{◌≡◌, refl, sym, ◌∙◌, subst, Bool, true, false, ℕ, ◌*◌, ◌-◌, ◌≤◌, ◌<◌, mul-le-mul_right, arith, eqb, leb-true, leb-false, le-leb, eqb-true}
-use Rattle.std.proofs.Math.Bool.{and-eq-true_iff}
+use Rattle.std.proofs.lemmas.Bool.{and_parts}
 use Rattle.reduction.specs.declared.InfluenceArea.{InfluenceArea}
 use Rattle.reduction.specs.declared.share.Share.{Share}
 use Rattle.reduction.specs.declared.share.Share.TheVariants.{Twentieths, Root}
@@ -32,11 +32,11 @@ root_below n x e =
 -- the class and the load of a formula line
 pub formula_class : (load class : ℕ) → is_formula load class ≡ true → class ≡ 1
 unfolding is_formula
-formula_class load class e = eqb-true class 1 ((and-eq-true_iff (eqb class 1) _).0 e).0
+formula_class load class e = eqb-true class 1 (and_parts (eqb class 1) _ e).0
 
 pub formula_load_lem : (load class : ℕ) → is_formula load class ≡ true → load ≤ 5000
 unfolding is_formula
-formula_load_lem load class e = leb-true load 5000 ((and-eq-true_iff (eqb class 1) _).0 e).1
+formula_load_lem load class e = leb-true load 5000 (and_parts (eqb class 1) _ e).1
 
 -- the share of a line fits
 pub share_fits : (load class n : ℕ) (x : InfluenceArea) → load ≤ 50000 → Fit (share_of load class n x) load

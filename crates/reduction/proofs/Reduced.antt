@@ -1,7 +1,7 @@
 -- Laws of the reduced load: it reaches, nothing below it does, and it is at most the load.
 -- Assumes nothing.
 use Rattle.std.proofs.Common.{◌≡◌, refl, sym, ◌∙◌, Bool, true, false, ◌&&◌, ◌||◌, ℕ, ◌*◌, ◌-◌, ◌≤◌, ◌<◌, mul-le-mul_left, mul-le-mul_right, zero-add, le_refl, le_trans, lt_of_not-le, arith, leb-true, le-leb}
-use Rattle.std.proofs.Math.Bool.{and-eq-true_iff}
+use Rattle.std.proofs.lemmas.Bool.{and_parts, and_from}
 use Rattle.std.proofs.Math.Decide.{dec_le}
 use Rattle.std.proofs.lemmas.Bool.{false≢true}
 use Rattle.refusal.specs.Said.{gives}
@@ -23,11 +23,10 @@ pub reaches_more : (s : Share) (load r r' : ℕ) → r ≤ r' → reaches s load
 unfolding reaches
 reaches_more (Twentieths k) load r r' h e = le-leb _ _ (le_trans (leb-true _ _ e) (mul-le-mul_left 20 h))
 reaches_more (Root x) load r r' h e =
-    let both = (and-eq-true_iff _ _).0 e in
+    let both = and_parts _ _ e in
     let low : load ≤ 4 * r = leb-true _ _ both.0 in
     let gap : 4 * r - load ≤ 4 * r' - load = omega arith in
-    (and-eq-true_iff _ _).1
-    (le-leb load (4 * r') (omega arith), le-leb _ _ (le_trans (leb-true _ _ both.1) (mul-le-mul_left (25 * x.0) (sq_le gap))))
+    and_from _ _ (le-leb load (4 * r') (omega arith)) (le-leb _ _ (le_trans (leb-true _ _ both.1) (mul-le-mul_left (25 * x.0) (sq_le gap))))
 
 -- a larger share is harder to reach
 twentieths_less : (j k load r : ℕ) → j ≤ k → reaches (Twentieths k) load r ≡ true → reaches (Twentieths j) load r ≡ true

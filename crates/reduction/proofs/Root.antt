@@ -1,7 +1,7 @@
 -- The root 1/4 + 45.7/√X against so many twentieths, told by squares.
 -- Assumes nothing.
 use Rattle.std.proofs.Common.{◌≡◌, sym, ◌∙◌, ap, true, false, ⊎_elim, ℕ, ◌+◌, ◌*◌, ◌-◌, ◌≤◌, ◌<◌, mul_assoc, mul_comm, add-mul, zero-mul, mul-zero, mul-le-mul_left, mul-le-mul_right, le_trans, le_of_lt, lt_of_not-le, eq-zero-or-pos, arith, leb, leb-true, leb-false, le-leb}
-use Rattle.std.proofs.Math.Bool.{and-eq-true_iff}
+use Rattle.std.proofs.lemmas.Bool.{and_parts, and_from}
 use Rattle.std.proofs.Math.Decide.{dec_le}
 use Rattle.std.proofs.Math.Nat.{le_of_mul-le-mul_left}
 use Rattle.lists.proofs.Tests.{same_test}
@@ -65,13 +65,13 @@ module _ (k : ℕ) (x : InfluenceArea) (load r : ℕ) where
       let most : sq 914 ≤ sq (k - 5) * x.0 = leb-true _ _ h in
       let at : (5 + (k - 5)) * load ≤ 20 * r = rw (five k x most) (leb-true _ _ e) in
       let both = above_root x.0 (k - 5) load r most at in
-      (and-eq-true_iff _ _).1 (le-leb _ _ both.0, le-leb _ _ both.1)
+      and_from _ _ (le-leb _ _ both.0) (le-leb _ _ both.1)
 
   -- what reaches the root reaches a share that the root is not below
   pub reaches_twentieths : root_at_least k x ≡ true → reaches (Root x) load r ≡ true → reaches (Twentieths k) load r ≡ true
   unfolding root_at_least reaches
   reaches_twentieths h e =
-      let both = (and-eq-true_iff _ _).0 e in
+      let both = and_parts _ _ e in
       let least : (5 + (k - 5)) * load ≤ 20 * r =
       above_twentieths x.0 (k - 5) load r (leb-true _ _ h) (leb-true _ _ both.0) (leb-true _ _ both.1) in
       le-leb _ _ (le_trans (mul-le-mul_right load (omega arith)) least)

@@ -2,7 +2,7 @@
 -- Assumes nothing.
 use Rattle.std.proofs.Common.{◌≡◌, refl, sym, ◌∙◌, ap, Bool, true, ℕ, zero, suc, ◌+◌, ◌*◌, ◌-◌, ◌/◌, ◌^◌, ◌≤◌, ◌<◌, mul_assoc, mul_comm, add-mul, mul-zero, mul-le-mul, mul-le-mul_left, mul-le-mul_right, le_refl, le_trans, le_of_lt, not-le_of_lt, lt_of_not-le, le_antisymm, add-one, arith, ltb, leb-true, le-leb, ltb-true, ltb-false, lt-ltb}
 use Rattle.std.specs.Prelude.{None, Some, IsSome}
-use Rattle.std.proofs.Math.Bool.{and-eq-true_iff}
+use Rattle.std.proofs.lemmas.Bool.{and_parts, and_from}
 use Rattle.std.proofs.Math.Decide.{dec_le}
 use Rattle.std.proofs.Math.Nat.{le_of_mul-le-mul_left, lt-mul-div-succ}
 use Rattle.std.proofs.Math.Path.{subst⁻¹}
@@ -19,7 +19,7 @@ use Rattle.reduction.proofs.Squares.{sq_le, sq_le⁻¹, sq_lt⁻¹, sq_mul, unde
 use Rattle.reduction.proofs.Least.{found, none}
 use Rattle.reduction.proofs.Root.{regroup}
 use Rattle.reduction.proofs.Twentieths.{share_formula}
-use Rattle.reduction.proofs.Fits.{formula_load_lem, formula_fits, share_fits, fit_root, fit_at_most, fit_reaches}
+use Rattle.reduction.proofs.Fits.{formula_fit, formula_fits, fit_root, fit_at_most, fit_reaches}
 
 module _ (x : InfluenceArea) where
   past : ℕ → Bool
@@ -91,7 +91,7 @@ module _ (x : InfluenceArea) (load : ℕ) (some : 1 ≤ x.0) where
   reaches_scale : (r : ℕ) → reaches (Root x) load r ≡ true → load * 524288 + load * root_scale x ≤ 2097152 * r
   unfolding reaches
   reaches_scale r e =
-      let both = (and-eq-true_iff _ _).0 e in
+      let both = and_parts _ _ e in
       let low : load ≤ 4 * r = leb-true _ _ both.0 in
       let root : sq (914 * load) ≤ 25 * x.0 * sq (4 * r - load) = leb-true _ _ both.1 in
       let left : 25 * x.0 * sq (root_scale x * load) ≤ 2 ^ 38 * sq (914 * load) =
@@ -113,7 +113,7 @@ module _ (x : InfluenceArea) (load : ℕ) (some : 1 ≤ x.0) where
       let right : 25 * x.0 * sq ((root_scale x + 1) * load) ≤ 2 ^ 38 * (25 * x.0 * sq (4 * r - load)) =
       rw (inside (25 * x.0) (4 * r - load)) (mul-le-mul_left (25 * x.0) (sq_le roots)) in
       let root : sq (914 * load) ≤ 25 * x.0 * sq (4 * r - load) = le_of_mul-le-mul_left (le_trans left right) (omega arith) in
-      (and-eq-true_iff _ _).1 (le-leb _ _ low, le-leb _ _ root)
+      and_from _ _ (le-leb _ _ low) (le-leb _ _ root)
 
 -- where a scale and one more give the same, rounded up, that is r
 abbrev pub Scaled : ℕ → ℕ → ℕ → Type 0
@@ -153,7 +153,7 @@ pub line_scaled : (load class n : ℕ) (x : InfluenceArea) {scale : ℕ} → is_
 line_scaled load class n x {scale} f e =
     let (y, root, is) = root_is n x e in
     let share : share_of load class n x ≡ Root y = share_formula load class n x f ∙ root in
-    let fits = rw share at (share_fits load class n x (omega (arith, formula_load_lem load class f))) in
+    let fits = rw root at (formula_fit load class n x f) in
     subst⁻¹ (λ (s : ℕ). Scaled s load (reduced (share_of load class n x) load)) is (rw share (root_scaled y load fits))
 
 -- no scale of the formula lines is larger

@@ -66,6 +66,7 @@ impl RootArea {
     }
 
     // The scale in units of 2⁻¹⁹. From an estimate to 2 in 10,000 one step ends on it, or one above.
+    #[tactic(auto, using(crate::proofs::Scales::scale_some))]
     pub fn rounded_down(self) -> u64
         ensures { result ≡ root_scale self.influence }
     {

@@ -4,7 +4,7 @@ use Rattle.std.proofs.Common.{rules, ◌≡◌, sym, ◌∙◌, true, false, ari
 use Rattle.std.proofs.lemmas.Option.{same_Some}
 use Rattle.reduction.specs.Scale.{root_scale}
 use Rattle.reduction.specs.inner.ShareBounds.{fits}
-use Rattle.reduction.proofs.Scales.{scale_most, scale_some}
+use Rattle.reduction.proofs.Scales.{scale_most}
 use Rattle.reduction.proofs.Down.{last_from_Range}
 use Rattle.reduction.proofs.Found.{scale_found}
 use Rattle.reduction.proofs.scale.RootArea.rounded_down.Goals as goal
@@ -16,12 +16,6 @@ found c =
     let last = last_from_Range (λ s. fits x s ≡ true) (λ s. fits x s ≡ false) _ (λ x q k. search (rules, tests)) (λ x q k. search (rules, tests)) _ _ _
     c.find.result c.rev.ensures.source c.find.ensures.ran in
     scale_found x (omega arith) _ (omega (arith, scale_most x c.args.self.past_cap)) c.find.result last
-
-pub nearer-requires : goal.nearer-requires
-nearer-requires c =
-    let at = c.args.self in
-    let some = scale_some at.influence (omega arith) at.before_least in
-    (omega (arith, some), omega arith)
 
 pub unwrap-requires : goal.unwrap-requires
 unwrap-requires c = rw (found c)
