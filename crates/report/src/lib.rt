@@ -26,7 +26,7 @@ pub struct Reported {
 
 // Puts the take-down of a text at the front of a buffer. Where the sheet is refused nothing is put: the
 // buffer is as it was.
-#[tactic(auto, unfolding(text::specs::Put::put))]
+#[tactic(auto, using(text::proofs::Puts::put_same))]
 pub fn report(text: &[u8], out: &mut [u8; ROOM]) -> Reported
     ensures value { result ≡ reported_of text.now }
     ensures out_after { out.new ≡ fronted (put_of text.now) out.old }
@@ -52,7 +52,7 @@ pub fn report(text: &[u8], out: &mut [u8; ROOM]) -> Reported
 
 // Puts the line that takedown prints for a refused sheet, of which only the number and the line K are
 // known here, at the front of a buffer; gives how many bytes that is. It takes any number, as C may hand one over.
-#[tactic(auto, unfolding(text::specs::Put::put))]
+#[tactic(auto, using(text::proofs::Puts::put_same))]
 pub fn put_refusal(number: u64, line: u64, out: &mut [u8; ROOM]) -> usize
     ensures value { result ≡ length (refusal_text number line) }
     ensures out_after { out.new ≡ fronted (refusal_text number line) out.old }

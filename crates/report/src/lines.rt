@@ -1,11 +1,11 @@
 // The lines that takedown prints, put into a buffer.
 ghost use Rattle.std.specs.Prelude.{◌≡◌};
-ghost use Rattle.text.specs.Put.{put};
+ghost use Rattle.text.specs.inner.Texts.{put};
 ghost use Rattle.report.specs.Report.{floor_line, governing_line, refusal_line};
 
 use combination::GoverningRow;
 use figure::Working;
-use text::Output;
+use text::{Output, Sink};
 
 // Puts the line of a floor with this working.
 #[tactic(auto, unfolding(text::specs::Put::field_parts, crate::specs::Report::floor_line))]

@@ -1,6 +1,6 @@
 // The takedown of a sheet that keeps the limits: its floors, and then the rows that govern.
 ghost use Rattle.std.specs.Prelude.{◌≡◌};
-ghost use Rattle.text.specs.Put.{put};
+ghost use Rattle.text.specs.inner.Texts.{put};
 ghost use Rattle.newtons.specs.Effect.{limit};
 ghost use Rattle.effects.specs.Check.{newtons_of};
 ghost use Rattle.effects.specs.inner.Sized.{Seven};

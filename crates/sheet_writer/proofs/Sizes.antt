@@ -1,14 +1,11 @@
 -- How long the lines of a sheet are, and the longest sheet.
 -- Assumes nothing.
-use Rattle.std.proofs.Common.{◌≡◌, refl, true, false, List, [], ◌∷◌, ◌++◌, ℕ, zero, suc, ◌+◌, ◌*◌, ◌/◌, ◌^◌, ◌≤◌, ◌<◌, pow-suc, arith, ℤ, pos, nat_abs, length, length-append}
-use Rattle.std.specs.Prelude.{sum_by}
-use Rattle.std.proofs.lemmas.List.Sums.{sum_by-cons}
-use lib.Signed.{lt_z}
-use Rattle.text.specs.Put.{field_parts}
+use Rattle.std.proofs.Common.{sym, ap, add-zero, min, ◌≡◌, List, [], ◌∷◌, ◌++◌, ℕ, ◌+◌, ◌*◌, ◌^◌, ◌≤◌, ◌<◌, arith, ℤ, nat_abs, length, length-append}
+use Rattle.text.specs.Put.{field_parts, put_all}
 use Rattle.text.specs.Text.{joined, decimal, signed_decimal}
 use Rattle.text.proofs.Puts.{joined_append, joined_length}
-use Rattle.text.proofs.Decimal.{length_most, length_more, length_some}
-use Rattle.text.proofs.Sign.{signed_below, signed_from_zero, signed_length}
+use Rattle.text.proofs.Decimal.{length_most}
+use Rattle.text.proofs.Sign.{signed_length}
 use Rattle.lists.specs.Lists.{All, none, more}
 use Rattle.newtons.specs.Effect.{magnitude_of, limit}
 use Rattle.column.specs.declared.Line.{Line}
@@ -22,6 +19,7 @@ use Rattle.sheet_lines.specs.LineText.{line_numbers}
 use Rattle.sheet.specs.declared.Sheet.{Sheet}
 use Rattle.sheet.specs.Keeps.{Keeps}
 use Rattle.sheet_text.specs.Written.{written}
+use Rattle.sheet_writer.specs.inner.Counted.{counted}
 use Rattle.sheet_writer.specs.inner.Parts.{member_parts, line_parts, floors_parts, effect_parts, effects_parts, sheet_parts}
 use Rattle.sheet_writer.proofs.Texts.{sheet_text}
 
@@ -39,53 +37,21 @@ effect_length : (key : List ℕ) (z : ℤ) → length (joined (effect_parts key 
 unfolding effect_parts joined
 effect_length key z = simp (length-append, joined_append) (omega arith)
 
--- a number below 0 has its sign before its digits, and no other has
-pub signed_below_length : (z : ℤ) → lt_z z (pos 0) ≡ true → length (signed_decimal z) ≡ length (decimal (nat_abs z)) + 1
-unfolding joined
-signed_below_length z h = rw (signed_below z h) (simp length-append (omega arith))
-
-pub signed_from_zero_length : (z : ℤ) → lt_z z (pos 0) ≡ false → length (signed_decimal z) ≡ length (decimal (nat_abs z))
-unfolding joined
-signed_from_zero_length z h = rw (signed_from_zero z h) (simp length-append (omega arith))
-
-pos_pow : (k : ℕ) → 1 ≤ 10 ^ k
-pos_pow zero = omega arith
-pos_pow (suc k) = omega (arith, pow-suc 10 k, pos_pow k)
-
--- the digits of a number from 10 ^ k on, below 10 ^ (k + 1)
-digits_least : (k n : ℕ) → 10 ^ k ≤ n → suc k ≤ length (decimal n)
-digits_least zero n h = length_some n
-digits_least (suc k) n h =
-    let some : 1 ≤ 10 ^ k = pos_pow k in
-    let ten : 10 ≤ n = omega (arith, pow-suc 10 k, h) in
-    let tenth : 10 ^ k ≤ n / 10 = omega (arith, pow-suc 10 k, h) in
-    omega (arith, length_more n ten, digits_least k (n / 10) tenth)
-
-pub digits_are : (k n : ℕ) → 10 ^ k ≤ n → n < 10 * 10 ^ k → length (decimal n) ≡ k + 1
-digits_are k n low high = omega (arith, digits_least k n low, length_most k n (rw (pow-suc 10 k) (omega (arith, high))))
-
 -- one effect more, and all of them
 effects_more : (key : List ℕ) (keys : List (List ℕ)) (z : ℤ) (zs : List ℤ)
     → length (joined (effects_parts (key ∷ keys) (z ∷ zs))) ≡ length key + length (signed_decimal z) + 1 + length (joined (effects_parts keys zs))
 unfolding effects_parts
 effects_more key keys z zs = omega (arith, joined_length (effect_parts key z) (effects_parts keys zs), effect_length key z)
 
-abbrev pub numbers_length : List ℤ → ℕ
-numbers_length zs = sum_by (λ z. length (signed_decimal z)) zs
-
-pub effects_length : (keys : List (List ℕ)) (zs : List ℤ) → length zs ≡ length keys
-    → length (joined (effects_parts keys zs)) ≡ length (joined keys) + length keys + numbers_length zs
-unfolding effects_parts joined
-effects_length [] [] h = refl
-effects_length [] (z ∷ zs) h = absurd (omega arith)
-effects_length (key ∷ keys) [] h = absurd (omega arith)
-effects_length (key ∷ keys) (z ∷ zs) h =
-    let rest = effects_length keys zs (omega arith) in
-    let more = effects_more key keys z zs in
-    let size = length-append key (joined keys) in
-    let all : length (joined (key ∷ keys)) ≡ length key + length (joined keys) = size in
-    let sum : numbers_length (z ∷ zs) ≡ length (signed_decimal z) + numbers_length zs = sum_by-cons (λ z. length (signed_decimal z)) z zs in
-    omega (arith, more, all, rest, sum)
+-- texts that are counted have these bytes, where 64 bits hold them
+pub counted_all : (n : ℕ) (ts : List (List ℕ)) → n + length (joined ts) < 2 ^ 64 → put_all counted (record { bytes = n }) ts ≡ record { bytes = n + length (joined ts) }
+unfolding put_all counted joined
+counted_all n [] h = ap (λ (k : ℕ). record { bytes = k }) (sym (add-zero n))
+counted_all n (t ∷ ts) h =
+    let size = length-append t (joined ts) in
+    let one : min (n + length t) 18446744073709551615 ≡ n + length t = omega arith in
+    let all : n + length t + length (joined ts) ≡ n + length (t ++ joined ts) = omega arith in
+    rw (one, counted_all (n + length t) ts (omega arith), all)
 
 -- ---- the longest sheet
 

@@ -15,8 +15,9 @@ use effects::LoadEffect;
 use refusal::{Refusal, Refused};
 use sheet::SheetRef;
 use sheet_lines::EFFECTS;
+use text::Output;
 
-mod lengths;
+mod counted;
 mod lines;
 
 // The bytes of a buffer that suffice for every sheet; none that is written has more than 10,371.
@@ -72,10 +73,11 @@ fn fits(sheet: SheetRef<'_>, room: usize) -> bool
     ensures { result ≡ leb (length (written (sheet_seen sheet.entry))) room }
 {
     let suffices = room >= ROOM;
-    suffices || lengths::sheet_length(sheet) <= room
+    suffices || counted::sheet_length(sheet) <= room
 }
 
 // Writes a sheet; the buffer is as it was where it is too short.
+#[tactic(auto, using(text::proofs::Puts::put_same))]
 fn write_whole(sheet: SheetRef<'_>, out: &mut [u8]) -> Result<usize, Refused<Option<Placed>>>
     ensures answered { told result ≡ sized (if_room (length out.old) (written (sheet_seen sheet.entry))) }
     ensures put { out.new ≡ fronted (saved_text (if_room (length out.old) (written (sheet_seen sheet.entry)))) out.old }
@@ -87,7 +89,9 @@ fn write_whole(sheet: SheetRef<'_>, out: &mut [u8]) -> Result<usize, Refused<Opt
             back: None,
         });
     }
-    Ok(lines::put_sheet(out, sheet))
+    let mut output = Output { buffer: out, at: 0 };
+    lines::put_sheet(&mut output, sheet);
+    Ok(output.at)
 }
 
 // Writes the sheet of a column and six effects to the front of a buffer, and gives how many bytes that is. Where an

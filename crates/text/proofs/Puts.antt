@@ -5,40 +5,34 @@ use lib.Seq.{sets, sets-eq, length-sets}
 use Rattle.io.specs.Counts.{IsPrefixLen}
 use Rattle.text.specs.Text.{joined}
 use Rattle.text.specs.declared.Output.{Output}
-use Rattle.text.specs.Put.{Out, out, put_one, puts, put, fronted}
+use Rattle.text.specs.Put.{put_all, put_text, fronted}
+use Rattle.text.specs.inner.Texts.{put}
 
--- some texts, then others after them
-pub puts_then : {b d : List ℕ} {j k : ℕ} (l : List ℕ) (i : ℕ) (vs ws : List (List ℕ)) → out b j ≡ puts l i vs → out d k ≡ puts b j ws → out d k ≡ puts l i (vs ++ ws)
-unfolding puts
-puts_then l i [] ws p q = q ∙ ap (λ (o : Out). puts o.buffer o.end ws) p
-puts_then l i (v ∷ vs) ws p q = puts_then (put_one l i v).buffer (put_one l i v).end vs ws p q
+-- some texts, and then others after them
+pub put_then : {S : Type 0} (with_text : S → List ℕ → S) (s : S) (vs ws : List (List ℕ)) → put_all with_text (put_all with_text s vs) ws ≡ put_all with_text s (vs ++ ws)
+unfolding put_all
+put_then with_text s [] ws = refl
+put_then with_text s (v ∷ vs) ws = put_then with_text (with_text s v) vs ws
 
--- the same of an output
-pub put_then : (o : Output) (vs ws : List (List ℕ)) → put (put o vs) ws ≡ put o (vs ++ ws)
-unfolding put
-put_then o vs ws =
-    ap (λ (p : Out). record { buffer = record o.buffer { now = p.buffer }; at = p.end })
-    (puts_then o.buffer.now o.at vs ws refl refl)
-
--- what an output that was made over a buffer leaves in it
-pub put_is : {after : Output} (o : Output) (vs : List (List ℕ)) → after ≡ put o vs → out after.buffer.now after.at ≡ puts o.buffer.now o.at vs
-unfolding put
-put_is o vs e = ap (λ (x : Output). out x.buffer.now x.at) e
-
--- an output keeps its buffer
-pub put_same : {after : Output} (o : Output) (vs : List (List ℕ)) → after ≡ put o vs → after.buffer.ghost_name ≡ o.buffer.ghost_name
-unfolding put
-put_same o vs e = ap (λ (x : Output). x.buffer.ghost_name) e
-
--- the buffer keeps its length
-pub puts_length : {after : List ℕ} {end : ℕ} (l : List ℕ) (i : ℕ) (vs : List (List ℕ)) → out after end ≡ puts l i vs → length after ≡ length l
-unfolding puts put_one
-puts_length l i [] p = ap (λ (o : Out). length o.buffer) p
-puts_length l i (v ∷ vs) p = puts_length (put_one l i v).buffer (put_one l i v).end vs p ∙ go (leb (i + length v) (length l))
+-- an output keeps its buffer, and the buffer its length
+one_same : (o : Output) (v : List ℕ) → ((put_text o v).buffer.ghost_name ≡ o.buffer.ghost_name) × (length (put_text o v).buffer.now ≡ length o.buffer.now)
+unfolding put_text
+one_same o v = go (leb (o.at + length v) (length o.buffer.now))
   where
-    go : (b : Bool) → length (cond b (out (sets l i v) (i + length v)) (out l i)).buffer ≡ length l
-    go true = length-sets l i v
-    go false = refl
+    go : (b : Bool) → let p = cond b (record { buffer = record o.buffer { now = sets o.buffer.now o.at v }; at = o.at + length v }) o in
+        (p.buffer.ghost_name ≡ o.buffer.ghost_name) × (length p.buffer.now ≡ length o.buffer.now)
+    go true = (refl, length-sets o.buffer.now o.at v)
+    go false = (refl, refl)
+
+pub put_same : (o : Output) (vs : List (List ℕ)) → (put o vs).buffer.ghost_name ≡ o.buffer.ghost_name
+unfolding put_all
+put_same o [] = refl
+put_same o (v ∷ vs) = put_same (put_text o v) vs ∙ (one_same o v).0
+
+put_length : (o : Output) (vs : List (List ℕ)) → length (put o vs).buffer.now ≡ length o.buffer.now
+unfolding put_all
+put_length o [] = refl
+put_length o (v ∷ vs) = put_length (put_text o v) vs ∙ (one_same o v).1
 
 -- the text of some texts and then others is that of both
 pub joined_append : (vs ws : List (List ℕ)) → joined (vs ++ ws) ≡ joined vs ++ joined ws
@@ -56,14 +50,15 @@ sets_append (a ∷ vs) ws l i =
     sets_append vs ws (set l i a) (suc i) ∙ ap (λ (k : ℕ). sets (sets (set l i a) (suc i) vs) k ws) e
 
 -- where there is room for all, all are put
-puts_fit : (vs : List (List ℕ)) (l : List ℕ) (i : ℕ) → i + length (joined vs) ≤ length l → puts l i vs ≡ out (sets l i (joined vs)) (i + length (joined vs))
-unfolding puts joined put_one
-puts_fit [] l i room = rw (add-zero i)
-puts_fit (v ∷ vs) l i room =
+put_fit : (o : Output) (vs : List (List ℕ)) → o.at + length (joined vs) ≤ length o.buffer.now
+    → put o vs ≡ record { buffer = record o.buffer { now = sets o.buffer.now o.at (joined vs) }; at = o.at + length (joined vs) }
+unfolding put_all put_text joined
+put_fit o [] room = rw (add-zero o.at)
+put_fit o (v ∷ vs) room =
     let size = length-append v (joined vs) in
-    let n : i + length v + length (joined vs) ≡ i + length (v ++ joined vs) = omega arith in
-    rw (le-leb (i + length v) (length l) (omega arith))
-    (puts_fit vs (sets l i v) (i + length v) (omega (arith, length-sets l i v)) ∙ rw (n, sets_append v (joined vs) l i))
+    let n : o.at + length v + length (joined vs) ≡ o.at + length (v ++ joined vs) = omega arith in
+    rw (le-leb (o.at + length v) (length o.buffer.now) (omega arith))
+    (put_fit (record { buffer = record o.buffer { now = sets o.buffer.now o.at v }; at = o.at + length v }) vs (omega (arith, length-sets o.buffer.now o.at v)) ∙ rw (n, sets_append v (joined vs) o.buffer.now o.at))
 
 -- texts that find room from the front on: how far they reach, and the whole buffer then
 pub record Front (l : List ℕ) (text after : List ℕ) (end : ℕ) : Type 0 where
@@ -71,17 +66,19 @@ pub record Front (l : List ℕ) (text after : List ℕ) (end : ℕ) : Type 0 whe
   pub is : after ≡ fronted text l
   pub counts : IsPrefixLen end after
 
-pub puts_front : {l after : List ℕ} {end : ℕ} (vs : List (List ℕ)) → out after end ≡ puts l 0 vs → length (joined vs) ≤ length l → Front l (joined vs) after end
+pub put_front : {after : Output} (o : Output) (vs : List (List ℕ)) → after ≡ put o vs → o.at ≡ 0 → length (joined vs) ≤ length o.buffer.now
+    → Front o.buffer.now (joined vs) after.buffer.now after.at
 unfolding fronted
-puts_front {l} {after} {end} vs p room =
+put_front {after} o vs e z room =
+    let l = o.buffer.now in
     let t = joined vs in
-    let e : out after end ≡ out (sets l 0 t) (0 + length t) = p ∙ puts_fit vs l 0 (omega arith) in
-    let n : end ≡ length t = ap (λ (o : Out). o.end) e ∙ zero-add (length t) in
-    let most : end ≤ length after = omega (arith, puts_length l 0 vs p) in
+    let fit = e ∙ put_fit o vs (omega (arith, z)) in
+    let n : after.at ≡ length t = omega (arith, ap (λ (p : Output). p.at) fit, z) in
+    let most : after.at ≤ length after.buffer.now = omega (arith, ap (λ (p : Output). length p.buffer.now) e, put_length o vs) in
     record {
       ends = n;
-      is = ap (λ (o : Out). o.buffer) e ∙ (sets-eq t l 0 (omega arith) ∙ ap (λ (k : ℕ). t ++ drop k l) (zero-add (length t)));
-      counts = (most, sym (length-take-le end after most));
+      is = ap (λ (p : Output). p.buffer.now) fit ∙ (ap (λ (i : ℕ). sets l i t) z ∙ sets-eq t l 0 (omega arith) ∙ ap (λ (k : ℕ). t ++ drop k l) (zero-add (length t)));
+      counts = (most, sym (length-take-le after.at after.buffer.now most));
     }
 
 -- the text at the front of a buffer is what its first bytes are, and the others are as they were

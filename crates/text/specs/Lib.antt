@@ -2,4 +2,5 @@
 pub mod Text
 pub mod Lines
 pub mod Put
+pub mod inner
 pub mod theorems

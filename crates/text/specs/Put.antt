@@ -6,28 +6,17 @@ use Rattle.text.specs.declared.Output.{Output}
 use Rattle.text.specs.Text.{decimal}
 use Rattle.text.specs.Lines.{newline}
 
--- No part of the paper: a buffer, and the index after what was put
-pub record Out : Type 0 where
-  pub buffer : List ℕ
-  pub end : ℕ
+-- No part of the paper: what something is after texts are put into it, by what it is after one
+unfoldable pub put_all : {S : Type 0} → (S → List ℕ → S) → S → List (List ℕ) → S
+put_all with_text s [] = s
+put_all with_text s (t ∷ ts) = put_all with_text (with_text s t) ts
 
--- No part of the paper: the same, from both
-abbrev pub out : List ℕ → ℕ → Out
-out buffer end = record { buffer = buffer; end = end }
-
--- No part of the paper: the buffer with a text in it from the index on, and else as it was; without room nothing is put
-unfoldable pub put_one : List ℕ → ℕ → List ℕ → Out
-put_one buffer at text =
-    cond (leb (at + length text) (length buffer)) (out (sets buffer at text) (at + length text)) (out buffer at)
-
--- No part of the paper: texts put one after another
-unfoldable pub puts : List ℕ → ℕ → List (List ℕ) → Out
-puts buffer at [] = out buffer at
-puts buffer at (t ∷ ts) = let o = put_one buffer at t in puts o.buffer o.end ts
-
--- No part of the paper: an output after texts are put: it holds the same buffer, with them in it, and the index after them
-unfoldable pub put : Output → List (List ℕ) → Output
-put o ts = let p = puts o.buffer.now o.at ts in record { buffer = record o.buffer { now = p.buffer }; at = p.end }
+-- No part of the paper: an output after a text is put: it holds the same buffer, with the text in it from the index on, and the
+-- index after it; without room nothing is put
+unfoldable pub put_text : Output → List ℕ → Output
+put_text o t =
+    let end = o.at + length t in
+    cond (leb end (length o.buffer.now)) (record { buffer = record o.buffer { now = sets o.buffer.now o.at t }; at = end }) o
 
 -- 01, The sheet: numbers, each behind its key, and "one newline byte (10)"
 unfoldable pub field_parts : List (List ℕ) → List ℕ → List (List ℕ)

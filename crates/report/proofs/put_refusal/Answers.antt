@@ -1,6 +1,6 @@
 -- `report::put_refusal` meets its contract: the line finds room. Assumes nothing.
-use Rattle.std.proofs.Common.{◌≤◌, arith, length, rules}
-use Rattle.text.proofs.Puts.{puts_front, put_is}
+use Rattle.std.proofs.Common.{refl, ◌≤◌, arith, length, rules}
+use Rattle.text.proofs.Puts.{put_front}
 use Rattle.report.specs.Report.{refusal_line, refusal_text}
 use Rattle.report.proofs.Lengths.{refusal_most}
 use Rattle.report.proofs.put_refusal.Goals as goal
@@ -10,5 +10,5 @@ unfolding refusal_text
 returns c =
     let size : 4096 ≤ length c.args.out.now = search rules in
     let most = refusal_most c.args.number c.args.line (search rules) (search rules) in
-    let p = puts_front (refusal_line c.args.number c.args.line) (put_is _ _ c.put_refusal_line.ensures) (omega (arith, most)) in
+    let p = put_front _ (refusal_line c.args.number c.args.line) c.put_refusal_line.ensures refl (omega (arith, most)) in
     record { value = p.ends; out_after = p.is; prefix_len = p.counts }

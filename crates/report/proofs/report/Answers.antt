@@ -2,7 +2,7 @@
 use Rattle.std.proofs.Common.{refl, ◌∙◌, ap, List, ℕ, ◌≤◌, arith, length, rules}
 use Rattle.text.specs.Text.{joined}
 use Rattle.text.specs.Put.{fronted}
-use Rattle.text.proofs.Puts.{Front, puts_front, put_is}
+use Rattle.text.proofs.Puts.{Front, put_front}
 use Rattle.sheet.specs.Keeps.{Keeps}
 use Rattle.report.specs.Report.{takedown_of}
 use Rattle.report.proofs.Lengths.{takedown_most}
@@ -36,7 +36,7 @@ whole c =
     let size : 4096 ≤ length c.args.out.now = search rules in
     let most = takedown_most sheet (keeps (goal.at.After-put_takedown c).Else-is_refused) in
     let put = rw c.lend.ensures at c.put_takedown.ensures in
-    puts_front (takedown_of sheet) (put_is _ _ put) (omega (arith, most))
+    put_front _ (takedown_of sheet) put refl (omega (arith, most))
 
 pub returns : goal.returns
 returns c =

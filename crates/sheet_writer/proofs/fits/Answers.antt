@@ -3,7 +3,6 @@ use Rattle.std.proofs.Common.{sym, ◌∙◌, ap, ℕ, leb, length, arith, le-le
 use Rattle.sheet.specs.Seen.{sheet_seen}
 use Rattle.sheet.proofs.Seen.{seen_keeps}
 use Rattle.sheet_text.specs.Written.{written}
-use Rattle.sheet_writer.proofs.Texts.{sheet_text}
 use Rattle.sheet_writer.proofs.Sizes.{written_most}
 use Rattle.sheet_writer.proofs.fits.Goals as goal
 
@@ -15,4 +14,4 @@ returns-then-suffices c =
 
 pub returns-else-suffices : goal.returns-else-suffices
 returns-else-suffices c =
-    ap (λ (k : ℕ). leb k c.args.room) (c.sheet_length.ensures ∙ ap length (sheet_text (sheet_seen c.args.sheet)))
+    ap (λ (k : ℕ). leb k c.args.room) c.sheet_length.ensures

@@ -1,9 +1,10 @@
 -- `sheet_writer::write_whole` meets its contract: with room for it the sheet is put whole, and else nothing. Assumes nothing.
-use Rattle.std.proofs.Common.{◌≡◌, ap, true, false, ◌≤◌, leb, length, arith, leb-true}
+use Rattle.std.proofs.Common.{rules, refl, ◌≡◌, ◌∙◌, ap, true, false, ◌≤◌, leb, length, arith, leb-true}
 use Rattle.refusal.specs.Refusal.{number_of}
 use Rattle.refusal.specs.Said.{told}
+use Rattle.text.specs.declared.Output.{Output}
 use Rattle.text.specs.Put.{fronted}
-use Rattle.text.proofs.Puts.{Front, puts_front}
+use Rattle.text.proofs.Puts.{Front, put_front, put_same}
 use Rattle.member.proofs.Tests.{passed, failed}
 use Rattle.sheet.specs.Seen.{sheet_seen}
 use Rattle.sheet_text.specs.Written.{written}
@@ -29,11 +30,11 @@ room : (c : After-put_sheet) → leb (length (written (sheet_seen c.args.sheet))
 room c = passed c.fits.ensures c.if-not-fits.false
 
 -- the sheet is put whole
-whole : (c : After-put_sheet) → Front c.args.out.now (written (sheet_seen c.args.sheet)) c.put_sheet.new.to c.put_sheet.result
+whole : (c : After-put_sheet) → Front c.args.out.now (written (sheet_seen c.args.sheet)) c.put_sheet.new.sink.buffer.now c.put_sheet.new.sink.at
 whole c =
     let s = sheet_seen c.args.sheet in
     let size : length (written s) ≤ length c.args.out.now = leb-true _ _ (room c) in
-    rw (sheet_text s) at (puts_front (sheet_parts s) c.put_sheet.ensures (omega (arith, size, ap length (sheet_text s))))
+    rw (sheet_text s) at (put_front _ (sheet_parts s) c.put_sheet.ensures refl (omega (arith, size, ap length (sheet_text s))))
 
 pub returns-clause-answered : goal.returns-clause-answered
 unfolding sized told
@@ -45,7 +46,13 @@ pub returns-clause-put : goal.returns-clause-put
 unfolding saved_text
 returns-clause-put c =
     let t = (goal.at.returns-clause-put c).After-put_sheet in
-    rw (with_room _ _ (room t)) (whole t).is
+    let same = ap (λ (o : Output). o.buffer.ghost_name) t.put_sheet.ensures ∙ put_same _ _ in
+    let is = (whole t).is in
+    rw (with_room _ _ (room t)) (search rules)
 
 pub returns-clause-prefix_len : goal.returns-clause-prefix_len
-returns-clause-prefix_len c = (whole (goal.at.returns-clause-prefix_len c).After-put_sheet).counts
+returns-clause-prefix_len c =
+    let t = (goal.at.returns-clause-prefix_len c).After-put_sheet in
+    let same = ap (λ (o : Output). o.buffer.ghost_name) t.put_sheet.ensures ∙ put_same _ _ in
+    let counts = (whole t).counts in
+    search rules

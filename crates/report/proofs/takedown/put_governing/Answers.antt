@@ -20,4 +20,4 @@ unreachable-requires c = c.in_default.not-Ok _ (told_is_given _ (answered (goal.
 pub returns : goal.returns
 unfolding governing_lines
 returns c =
-    rw (← told_gives_it c.in-Ok.is (answered (goal.at.returns c).After-govern), c.put_governing_line-2.ensures, c.put_governing_line.ensures) (put_then _ _ _)
+    rw (← told_gives_it c.in-Ok.is (answered (goal.at.returns c).After-govern), c.put_governing_line-2.ensures, c.put_governing_line.ensures) (put_then _ _ _ _)

@@ -13,4 +13,4 @@ put_governing-requires c = rw c.newtons_with.ensures (seven_within (sheet_seen c
 
 pub returns : goal.returns
 unfolding takedown_of
-returns c = rw (c.put_governing.ensures, c.newtons_with.ensures, c.put_floors.ensures, c.work_out-lowest.ensures.workings, table_lines_lem (column_seen c.args.sheet.column)) (put_then _ _ _)
+returns c = rw (c.put_governing.ensures, c.newtons_with.ensures, c.put_floors.ensures, c.work_out-lowest.ensures.workings, table_lines_lem (column_seen c.args.sheet.column)) (put_then _ _ _ _)

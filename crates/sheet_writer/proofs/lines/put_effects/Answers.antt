@@ -8,7 +8,7 @@ use Rattle.sheet_writer.proofs.Texts.{effects_parts_lem}
 use Rattle.sheet_writer.proofs.lines.put_effects.Goals as goal
 
 pub returns : goal.returns
-returns c =
+returns g c =
     let within = within_anyhow c.args.sheet.within in
     let at : (k : ℕ) → to_z w64 (of_z w64 (get_or c.args.sheet.effects k (pos 0))) ≡ get_or c.args.sheet.effects k (pos 0) = λ k. kept (each_within within k) (lit< tt) in
     rw (effects_parts_lem c.args.sheet.effects within.count, ← put_then, ← put_then, ← put_then, ← put_then, ← put_then)

@@ -1,9 +1,0 @@
--- `text::Output::line` meets its contract: what is left to put makes the whole line. Assumes nothing.
-use Rattle.std.proofs.Common.{◌≡◌, map, drop}
-use Rattle.text.specs.Put.{field_parts, put}
-use Rattle.text.proofs.Output.line.Given as goal
-
-abbrev pub invariant-loop-key : goal.invariant-loop-key
-invariant-loop-key l =
-    put l.self (field_parts (map (λ f. f.0.now) (drop l.key-index l.fields)) (map (λ f. f.1) (drop l.key-index l.fields)))
-    ≡ put l.fn.self (field_parts (map (λ f. f.0.now) l.fields) (map (λ f. f.1) l.fields))

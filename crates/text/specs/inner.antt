@@ -1,0 +1,2 @@
+-- Definitions of which only the contracts of private functions speak.
+pub mod Texts
