@@ -106,7 +106,7 @@ fn whole_of<L: Copy>(effect: LoadEffect<L>) -> Result<i64, Refused<LoadEffect<L>
 }
 
 // Each of so many effects in whole newtons, checked in turn, or the first that is refused. The library's try_map says of its
-// error only that some element gives it, and not that it is the first.
+// error only that some element gives it, and not that it is the first; and after `iter_mut().zip(..)` nothing is known of an array.
 pub fn check_each<L: Copy, const N: usize>(
     effects: [LoadEffect<L>; N],
 ) -> Result<[i64; N], Refused<LoadEffect<L>>>
