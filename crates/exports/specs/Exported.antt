@@ -15,7 +15,13 @@ use Rattle.exports.specs.declared.checks.BungeroChecked.{BungeroChecked}
 use Rattle.exports.specs.declared.combinations.BungeroCombined.{BungeroCombined}
 use Rattle.exports.specs.declared.columns.BungeroFigure.{BungeroFigure}
 use Rattle.exports.specs.declared.listed.BungeroListed.{BungeroListed}
+use Rattle.sheet.specs.Sheet.{Reading}
+use Rattle.sheet_writer.specs.Saving.{Written}
+use Rattle.report.specs.Report.{Reported}
 use Rattle.exports.specs.declared.reductions.BungeroReduced.{BungeroReduced}
+use Rattle.exports.specs.declared.reports.BungeroReported.{BungeroReported}
+use Rattle.exports.specs.declared.sheets.BungeroReading.{BungeroReading}
+use Rattle.exports.specs.declared.sheets.BungeroWritten.{BungeroWritten}
 
 -- No part of the paper: the number of the layout of the structs, one more whenever it changes
 abbrev pub layout_number : ℕ
@@ -72,3 +78,15 @@ handed_out r =
 unfoldable pub shown_checked : Told (LoadEffect Load) (List ℤ) → HandedOut
 shown_checked (gives zs) = record { number = 0; place = 0; double = plus_zero; newtons = zs }
 shown_checked (refused n e) = record { number = n; place = place_of e.load; double = e.double; newtons = replicate 7 (pos 0) }
+
+-- 01, The sheet: the number, K, the part and the sheet so far, as reading gives them
+unfoldable pub shown_reading : Reading → BungeroReading
+shown_reading r = record { number = r.number; line = r.line; start = r.start; end = r.end; sheet = r.sheet }
+
+-- 01, The sheet: the number, K and how many bytes are put, as the report gives them
+unfoldable pub shown_report : Reported → BungeroReported
+shown_report r = record { number = r.number; line = r.line; length = r.length }
+
+-- 02, CR 2: the number, which effect is refused, its double and how many bytes are put, as writing gives them
+unfoldable pub shown_written : Written → BungeroWritten
+shown_written w = record { number = w.number; place = w.place; double = w.double; length = w.length }

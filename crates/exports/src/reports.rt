@@ -3,15 +3,35 @@ ghost use Rattle.std.specs.Prelude.{◌≡◌};
 ghost use Rattle.io.specs.Counts.{IsPrefixLen};
 ghost use Rattle.text.specs.Put.{fronted};
 ghost use Rattle.report.specs.Report.{put_of, reported_of};
+ghost use Rattle.exports.specs.Exported.{shown_report};
 
-use report::Reported;
+// What reporting gives: the number of the refusal, 0 where the sheet is read; the line K; and how many
+// bytes were put, 0 where the sheet is refused.
+#[repr(C)]
+#[derive(Clone, Copy)]
+pub struct BungeroReported {
+    pub number: u64,
+    pub line: u64,
+    pub length: usize,
+}
 
 // Puts the take-down of a text at the start of a buffer; nothing where the sheet is refused.
 #[unsafe(no_mangle)]
-pub extern "C" fn bungero_report(text: &[u8], out: &mut [u8; report::ROOM]) -> Reported
-    ensures value { result ≡ reported_of text.now }
-    ensures out_after { out.new ≡ fronted (put_of text.now) out.old }
+pub extern "C" fn bungero_report(text: &[u8], out: &mut [u8; report::ROOM]) -> BungeroReported
+    ensures reported { result ≡ shown_report (reported_of text.now) }
+    ensures put { out.new ≡ fronted (put_of text.now) out.old }
     ensures prefix_len { IsPrefixLen result.length out.new }
 {
-    report::report(text, out)
+    match report::report(text, out) {
+        Ok(taken) => BungeroReported {
+            number: 0,
+            line: taken.line,
+            length: taken.length,
+        },
+        Err(refused) => BungeroReported {
+            number: refused.refusal.number(),
+            line: refused.back,
+            length: 0,
+        },
+    }
 }

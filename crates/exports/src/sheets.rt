@@ -5,20 +5,53 @@ ghost use Rattle.text.specs.Put.{fronted};
 ghost use Rattle.column.specs.Column.{column_from, Reached};
 ghost use Rattle.sheet.specs.Sheet.{read_sheet};
 ghost use Rattle.sheet.specs.Keeps.{Keeps};
+ghost use Rattle.exports.specs.Exported.{shown_reading, shown_written};
 ghost use Rattle.sheet_writer.specs.Saving.{saving, saved_of, saved_text};
 
 use column::{ColumnRef, Member, Places};
 use effects::LoadEffect;
 use refusal::Refused;
-use sheet::Reading;
-use sheet_writer::{SheetDoubles, Written};
+use sheet::Sheet;
+use sheet_writer::SheetDoubles;
+
+// What reading gives: the number of the refusal, 0 where the sheet is read; the line K, which is the
+// last line where it is read; where the offending part starts and ends; and the sheet, as far as it
+// was read.
+#[repr(C)]
+#[derive(Clone, Copy)]
+pub struct BungeroReading {
+    pub number: u64,
+    pub line: u64,
+    pub start: usize,
+    pub end: usize,
+    pub sheet: Sheet,
+}
 
 // Reads a text as a sheet.
 #[unsafe(no_mangle)]
-pub extern "C" fn bungero_read(text: &[u8]) -> Reading
-    ensures { (result ≡ read_sheet text.now) × (result.number ≡ 0 → Keeps result.sheet) }
+pub extern "C" fn bungero_read(text: &[u8]) -> BungeroReading
+    ensures read { result ≡ shown_reading (read_sheet text.now) }
+    ensures keeps { result.number ≡ 0 → Keeps result.sheet }
 {
-    sheet::read(text)
+    let reading = sheet::read(text);
+    BungeroReading {
+        number: reading.refusal.map_or(0, |refusal| refusal.number()),
+        line: reading.stop.line,
+        start: reading.stop.part.start,
+        end: reading.stop.part.end,
+        sheet: reading.sheet,
+    }
+}
+
+// What writing gives: the number of the refusal, 0 where the sheet is written; the place of the refused
+// effect, 1 for dead to 6 for quake, and its double as it came; and how many bytes were put. The rest is 0.
+#[repr(C)]
+#[derive(Clone, Copy)]
+pub struct BungeroWritten {
+    pub number: u64,
+    pub place: u64,
+    pub double: f64,
+    pub length: usize,
 }
 
 // Writes the sheet of a column, lent in its parts, and six effects to the front of a buffer; nothing where
@@ -30,10 +63,10 @@ pub extern "C" fn bungero_write(
     count: u16,
     effects: SheetDoubles,
     out: &mut [u8],
-) -> Written
+) -> BungeroWritten
     requires { Reached (column_from member count held.now) }
-    ensures value { result ≡ saved_of (saving (column_from member count held.now) effects (length out.old)) }
-    ensures out_after { out.new ≡ fronted (saved_text (saving (column_from member count held.now) effects (length out.old))) out.old }
+    ensures written { result ≡ shown_written (saved_of (saving (column_from member count held.now) effects (length out.old))) }
+    ensures put { out.new ≡ fronted (saved_text (saving (column_from member count held.now) effects (length out.old))) out.old }
     ensures prefix_len { IsPrefixLen result.length out.new }
 {
     let column = ColumnRef {
@@ -42,7 +75,7 @@ pub extern "C" fn bungero_write(
         held,
     };
     match sheet_writer::write(column, effects, out) {
-        Ok(length) => Written {
+        Ok(length) => BungeroWritten {
             number: 0,
             place: 0,
             double: 0.0,
@@ -53,7 +86,7 @@ pub extern "C" fn bungero_write(
                 load: 0,
                 double: 0.0,
             });
-            Written {
+            BungeroWritten {
                 number: refusal.number(),
                 place: effect.load,
                 double: effect.double,

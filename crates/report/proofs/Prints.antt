@@ -7,10 +7,8 @@ use Rattle.text.specs.Text.{joined}
 use Rattle.text.specs.Put.{fronted}
 use Rattle.io.specs.Counts.{IsPrefixLen}
 use Rattle.text.proofs.Puts.{Front}
-use Rattle.sheet.specs.declared.Reading.{Reading}
-use Rattle.sheet.specs.Sheet.{read_sheet}
-use Rattle.report.specs.declared.Reported.{Reported}
-use Rattle.report.specs.Report.{takedown_of, refusal_text, report_of, put_of, reported_of}
+use Rattle.sheet.specs.Sheet.{Reading, read_sheet}
+use Rattle.report.specs.Report.{Reported, takedown_of, refusal_text, report_of, put_of, reported_of}
 use Rattle.report.specs.theorems.Prints.{Prints}
 
 -- what reading gave tells what is put and answered

@@ -1,8 +1,10 @@
 -- Paper 01, "The sheet": what the program takedown prints.
 -- Assumes nothing.
-use Rattle.std.specs.Prelude.{cond, List, [], ◌∷◌, ◌++◌, ℕ, zero, suc, ◌+◌, ◌/◌, eqb, ℤ, pos, length, get_or}
+use Rattle.std.specs.Prelude.{cond, List, [], ◌∷◌, ◌++◌, ℕ, zero, suc, ◌+◌, ◌/◌, eqb, ℤ, pos, length, get_or, Result, Ok, Err}
 use Rattle.text.specs.Text.{bytes_of, joined, decimal, signed_parts}
 use Rattle.text.specs.Lines.{newline}
+use Rattle.refusal.specs.declared.Refused.{Refused}
+use Rattle.refusal.specs.Refusal.{number_of}
 use Rattle.refusal.specs.Said.{Said, gives, refused}
 use Rattle.column.specs.declared.Column.{Column}
 use Rattle.figure.specs.declared.Working.{Working}
@@ -17,7 +19,7 @@ use Rattle.combination.specs.declared.Governing.{Governing}
 use Rattle.combination.specs.Combine.{governing}
 use Rattle.sheet.specs.declared.Sheet.{Sheet}
 use Rattle.sheet.specs.Sheet.{read_sheet}
-use Rattle.report.specs.declared.Reported.{Reported}
+use Rattle.report.specs.declared.TakenDown.{TakenDown}
 
 -- 01, The sheet: "floors is n, influence is X"; the texts of the line of a floor with this working
 unfoldable pub floor_line : ℕ → Working → List (List ℕ)
@@ -78,8 +80,19 @@ refusal_line n k = bytes_of "refused=" ∷ decimal n ∷ bytes_of " line=" ∷ d
 unfoldable pub put_of : List ℕ → List ℕ
 put_of text = let r = read_sheet text in cond (eqb r.number 0) (joined (takedown_of r.sheet)) []
 
--- 01, Numbers by the place of checking and The sheet: what the report of a text answers: the number, 0 where the sheet is read,
--- the line K, and how many bytes are put
+-- 01, Numbers by the place of checking and The sheet: what the report answers: the number, 0 where the sheet is read, the line
+-- K, and how many bytes are put
+pub record Reported : Type 0 where
+  pub number : ℕ
+  pub line : ℕ
+  pub length : ℕ
+
+-- No part of the paper: what the answer of the report says
+unfoldable pub reported_told : Result TakenDown (Refused ℕ) → Reported
+reported_told (Ok t) = record { number = 0; line = t.line; length = t.length }
+reported_told (Err r) = record { number = number_of r.refusal; line = r.back; length = 0 }
+
+-- 01, Numbers by the place of checking and The sheet: what the report of a text answers
 unfoldable pub reported_of : List ℕ → Reported
 reported_of text = let r = read_sheet text in record { number = r.number; line = r.line; length = length (put_of text) }
 

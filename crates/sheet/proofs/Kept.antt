@@ -18,10 +18,9 @@ use Rattle.sheet_lines.specs.Form.{effect_count, said_form, line_said}
 use Rattle.sheet_lines.specs.theorems.Says.{Says, member, floor, effect}
 use Rattle.sheet_lines.proofs.SaysForm.{Read, says, malformed, form_read}
 use Rattle.sheet.specs.declared.Sheet.{Sheet}
-use Rattle.sheet.specs.declared.Reading.{Reading}
 use Rattle.text.specs.Lines.{Lines, line, rest, split}
 use Rattle.sheet.specs.declared.steps.Draft.{Draft}
-use Rattle.sheet.specs.Sheet.{Taken, unread, is_complete, with_effect, if_taken, effect_number, valued, line_taken, reading, if_read, read_from, read_sheet}
+use Rattle.sheet.specs.Sheet.{Reading, Taken, unread, is_complete, with_effect, if_taken, effect_number, valued, line_taken, reading, if_read, read_from, read_sheet}
 use Rattle.sheet.specs.Keeps.{EffectsWithin, Keeps}
 use Rattle.sheet.specs.inner.SoFar.{KeepsColumn, KeepsSoFar}
 

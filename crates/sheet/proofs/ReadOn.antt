@@ -2,10 +2,12 @@
 -- Assumes nothing.
 use Rattle.std.proofs.Common.{◌≡◌, ap, Bool, true, false, cond, List, [], ◌∷◌, ◌++◌, ℕ, ◌+◌, ◌-◌, ◌<◌, ◌≤◌, arith, eqb, ltb, length, drop, take, drop_of_length-le, length-drop, length-append, length-take-le, le-ltb}
 use mathlib.Core.Path.{subst⁻¹}
-use Rattle.sheet.specs.declared.Reading.{Reading}
+use Rattle.std.specs.Prelude.{None}
+use Rattle.column.specs.Pasted.{number_or_0}
+use Rattle.sheet.specs.declared.ReadSheet.{ReadSheet}
 use Rattle.text.specs.Lines.{ended, Lines, line, rest, split, end_from}
 use Rattle.sheet.specs.declared.steps.Draft.{Draft}
-use Rattle.sheet.specs.Sheet.{Taken, unread, is_complete, line_taken, reading, if_read, read_from, read_sheet}
+use Rattle.sheet.specs.Sheet.{Reading, Taken, unread, is_complete, line_taken, reading, reading_told, if_read, read_from, read_sheet}
 use Rattle.sheet.specs.Keeps.{Keeps}
 use Rattle.text.proofs.Lines.{bytes, bytes_split}
 use Rattle.text.proofs.LineEnd.{end_most, line_short, line_whole}
@@ -43,9 +45,10 @@ pub read_start : (text : List ℕ) → length text ≤ 32768 → read_sheet text
 unfolding read_sheet
 read_start text h = rw (le-ltb 32768 (length text) h)
 
--- what is said of a reading of the text
-pub promised : (text : List ℕ) {r : Reading} → r ≡ read_sheet text → (r ≡ read_sheet text) × (r.number ≡ 0 → Keeps r.sheet)
-promised text e = (e, subst⁻¹ (λ (r : Reading). r.number ≡ 0 → Keeps r.sheet) e (read_keeps text))
+-- what is read of a text without a refusal keeps the limits
+pub promised : (text : List ℕ) (r : ReadSheet) → reading_told r ≡ read_sheet text → r.refusal ≡ None → Keeps r.sheet
+unfolding reading_told number_or_0
+promised text r e none = subst⁻¹ (λ (q : Reading). q.number ≡ 0 → Keeps q.sheet) e (read_keeps text) (ap number_or_0 none)
 
 -- the part that a reading hands back lies within the text
 pub record PartOf (n : ℕ) (r : Reading) : Type 0 where

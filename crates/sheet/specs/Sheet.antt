@@ -2,8 +2,8 @@
 -- Assumes nothing.
 use Rattle.std.specs.Prelude.{Bool, false, cond, List, [], ◌∷◌, ℕ, ◌+◌, ◌-◌, leb, ltb, eqb, ℤ, pos, length, take, drop, set, replicate}
 use Rattle.column.specs.declared.Column.{Column}
-use Rattle.column.specs.Column.{Outcome}
-use Rattle.column.specs.Column.{member_of, unopened, opened_of, entered_of}
+use Rattle.column.specs.Pasted.{number_or_0}
+use Rattle.column.specs.Column.{Outcome, member_of, unopened, opened_of, entered_of}
 use Rattle.newtons.specs.Effect.{within}
 use Rattle.sheet_lines.specs.declared.Due.{Due}
 use Rattle.sheet_lines.specs.declared.Due.TheVariants as D
@@ -11,7 +11,8 @@ use Rattle.refusal.specs.Said.{Said, gives, refused}
 use Rattle.sheet_lines.specs.declared.Form.{Form}
 use Rattle.sheet_lines.specs.declared.Form.TheVariants as F
 use Rattle.sheet_lines.specs.Form.{effect_count, line_said}
-use Rattle.sheet.specs.declared.Reading.{Reading}
+use Rattle.sheet.specs.declared.Sheet.{Sheet}
+use Rattle.sheet.specs.declared.ReadSheet.{ReadSheet}
 use Rattle.sheet.specs.declared.steps.Draft.{Draft}
 use Rattle.text.specs.Lines.{Lines, line, rest, split}
 
@@ -60,6 +61,20 @@ valued d (refused n _) = if_taken n d d
 -- 01, Numbers by the place of checking: "each line: form, then its values"
 unfoldable pub line_taken : Draft → List ℕ → Taken
 line_taken d l = valued d (line_said d.due l)
+
+-- 01, The sheet and Numbers by the place of checking: what reading gives: the number, 0 where the sheet is read; the line K;
+-- where the offending part starts and ends; and the sheet, as far as it was read
+pub record Reading : Type 0 where
+  pub number : ℕ
+  pub line : ℕ
+  pub start : ℕ
+  pub end : ℕ
+  pub sheet : Sheet
+
+-- No part of the paper: what the answer of reading says
+unfoldable pub reading_told : ReadSheet → Reading
+reading_told r =
+    record { number = number_or_0 r.refusal; line = r.stop.line; start = r.stop.part.start; end = r.stop.part.end; sheet = r.sheet }
 
 -- 01, The sheet: what reading gives where it stops: the number, K, the part from start to end, and the sheet so far
 abbrev pub reading : ℕ → ℕ → ℕ → ℕ → Draft → Reading

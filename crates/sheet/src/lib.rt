@@ -1,16 +1,17 @@
 // A text sheet read into a column and six effects, line by line; and the part of a text that is refused.
 #![tactic(auto)]
 
-ghost use Rattle.std.specs.Prelude.{◌≡◌};
+ghost use Rattle.std.specs.Prelude.{◌≡◌, None};
 ghost use Rattle.refusal.specs.Refusal.{number_of};
 ghost use Rattle.sheet.specs.declared.steps.Draft.{Draft};
-ghost use Rattle.sheet.specs.Sheet.{unread, reading, read_sheet, offending_of, offending_at};
+ghost use Rattle.sheet.specs.Sheet.{unread, reading, reading_told, read_sheet, offending_of, offending_at};
 ghost use Rattle.sheet.specs.Keeps.{Keeps};
 ghost use Rattle.sheet.specs.inner.Stopped.{reading_of};
 
 use column::Column;
 use refusal::{Refusal, Refused};
 use sheet_lines::EFFECTS;
+use std::ops::Range;
 use steps::Draft;
 use text::scan::line_end;
 
@@ -30,35 +31,31 @@ pub struct Sheet {
     pub effects: [i64; EFFECTS],
 }
 
-// What reading gives: the number of the refusal, 0 where the sheet is read; the line K, which is the
-// last line where it is read; where the offending part starts and ends; and the sheet, as far as it
-// was read. The C interface hands it out, and all of it is told in both cases.
-#[repr(C)]
-#[derive(Clone, Copy)]
-pub struct Reading {
-    pub number: u64,
+// Where reading stops: the line K, which is the last line where the sheet is read; and where in the text the part stands
+// that is handed back.
+#[derive(Drop)]
+pub struct Stop {
     pub line: u64,
-    pub start: usize,
-    pub end: usize,
-    pub sheet: Sheet,
+    pub part: Range<usize>,
 }
 
-// Where reading stops: the line K, and where the part that is handed back starts and ends.
-#[derive(Clone, Copy)]
-struct Stop {
-    pub line: u64,
-    pub start: usize,
-    pub end: usize,
+// What reading gives: the refusal, if the sheet is refused; and in both cases where reading stops, and the sheet as far as
+// it was read.
+#[derive(Drop)]
+pub struct ReadSheet {
+    pub refusal: Option<Refusal>,
+    pub stop: Stop,
+    pub sheet: Sheet,
 }
 
 // The refusal of a line, with the part that is handed back.
 #[tactic(auto, unfolding(crate::specs::inner::Stopped::reading_of))]
-fn refused(refusal: Refusal, line: u64, start: usize, end: usize) -> Result<Stop, Refused<Stop>>
-    ensures { (draft : Draft) → reading_of result draft ≡ reading (number_of refusal) line start end draft }
+fn refused(refusal: Refusal, line: u64, part: Range<usize>) -> Result<Stop, Refused<Stop>>
+    ensures { (draft : Draft) → reading_of result draft ≡ reading (number_of refusal) line part.start part.end draft }
 {
     Err(Refused {
         refusal,
-        back: Stop { line, start, end },
+        back: Stop { line, part },
     })
 }
 
@@ -69,45 +66,40 @@ fn read_in(draft: &mut Draft, text: &[u8]) -> Result<Stop, Refused<Stop>>
     ensures { reading_of result draft.new ≡ read_sheet text.now }
 {
     if text.len() > LONGEST {
-        return refused(Refusal::SheetTooLong, 0, 0, 0);
+        return refused(Refusal::SheetTooLong, 0, 0..0);
     }
     let mut at = 0;
     let mut line: u64 = 0;
     while at < text.len() {
         let end = line_end(text, at);
         if end == text.len() {
-            return refused(Refusal::SheetMalformed, line + 1, at, end);
+            return refused(Refusal::SheetMalformed, line + 1, at..end);
         }
         if let Err(refusal) = draft.take_line(&text[at..end]) {
-            return refused(refusal, line + 1, at, end);
+            return refused(refusal, line + 1, at..end);
         }
         at = end + 1;
         line += 1;
     }
     if draft.is_complete() {
-        return Ok(Stop {
-            line,
-            start: at,
-            end: at,
-        });
+        return Ok(Stop { line, part: at..at });
     }
-    refused(Refusal::SheetMalformed, line + 1, at, at)
+    refused(Refusal::SheetMalformed, line + 1, at..at)
 }
 
 // Reads a sheet line by line, each its form and then its values.
-pub fn read(text: &[u8]) -> Reading
-    ensures { (result ≡ read_sheet text.now) × (result.number ≡ 0 → Keeps result.sheet) }
+pub fn read(text: &[u8]) -> ReadSheet
+    ensures read { reading_told result ≡ read_sheet text.now }
+    ensures keeps { result.refusal ≡ None → Keeps result.sheet }
 {
     let mut draft = Draft::unread();
-    let (number, stop) = match read_in(&mut draft, text) {
-        Ok(stop) => (0, stop),
-        Err(refused) => (refused.refusal.number(), refused.back),
+    let (refusal, stop) = match read_in(&mut draft, text) {
+        Ok(stop) => (None, stop),
+        Err(refused) => (Some(refused.refusal), refused.back),
     };
-    Reading {
-        number,
-        line: stop.line,
-        start: stop.start,
-        end: stop.end,
+    ReadSheet {
+        refusal,
+        stop,
         sheet: draft.sheet,
     }
 }
@@ -115,11 +107,9 @@ pub fn read(text: &[u8]) -> Reading
 // The part of a text that is refused, without its newline, in the text's own memory; the empty part at
 // the end where a line is missing or the sheet is read, and at the start where the text is too long.
 pub fn offending(text: &[u8]) -> &[u8]
-    ensures result_value { result.now ≡ offending_of text.now }
-    ensures ref_ptr_value { result.ref_ptr ≡ offending_at text.entry.ref_ptr text.now }
+    ensures part { result.now ≡ offending_of text.now }
+    ensures place { result.ref_ptr ≡ offending_at text.entry.ref_ptr text.now }
 {
-    let reading = read(text);
-    let start = reading.start;
-    let end = reading.end;
-    &text[start..end]
+    let part = read(text).stop.part;
+    &text[part]
 }

@@ -7,10 +7,9 @@ use Rattle.sheet_lines.specs.declared.Due.{Due}
 use Rattle.sheet_lines.specs.declared.Due.TheVariants as D
 use Rattle.sheet_lines.specs.Form.{effect_keys, effect_count}
 use Rattle.sheet.specs.declared.Sheet.{Sheet}
-use Rattle.sheet.specs.declared.Reading.{Reading}
 use Rattle.text.specs.Lines.{newline, Lines, line, rest, split, ended, text_of}
 use Rattle.sheet.specs.declared.steps.Draft.{Draft}
-use Rattle.sheet.specs.Sheet.{Taken, unread, is_complete, line_taken, reading, if_read, read_from, read_sheet}
+use Rattle.sheet.specs.Sheet.{Reading, Taken, unread, is_complete, line_taken, reading, if_read, read_from, read_sheet}
 use Rattle.sheet.specs.inner.SoFar.{KeepsSoFar}
 use Rattle.sheet.proofs.Kept.{Kept, unread_kept, line_kept, read_keeps}
 use Rattle.sheet_text.specs.Written.{effect_lines}

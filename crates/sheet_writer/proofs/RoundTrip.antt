@@ -13,9 +13,8 @@ use Rattle.effects.specs.Check.{if_given, checked_from}
 use Rattle.effects.proofs.Checks.{all_kept, double_taken}
 use Rattle.column.specs.declared.Column.{Column}
 use Rattle.column.specs.Column.{Reached}
-use Rattle.sheet.specs.declared.Reading.{Reading}
 use Rattle.sheet.specs.declared.Sheet.{Sheet}
-use Rattle.sheet.specs.Sheet.{read_sheet}
+use Rattle.sheet.specs.Sheet.{Reading, read_sheet}
 use Rattle.sheet.specs.Keeps.{EffectsWithin, Keeps}
 use Rattle.sheet.proofs.Kept.{each_within, read_keeps}
 use Rattle.sheet_text.specs.Written.{written}

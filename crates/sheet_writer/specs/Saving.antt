@@ -1,6 +1,6 @@
 -- Paper 02, CR 2: what writing the sheet of a column and six effects into a lent buffer gives.
 -- Assumes nothing.
-use Rattle.std.specs.Prelude.{false, cond, List, [], ◌∷◌, ℕ, leb, ℤ, pos, length, Option, Some, None, unwrap_or}
+use Rattle.std.specs.Prelude.{false, cond, List, [], ◌∷◌, ℕ, leb, ℤ, pos, length, Option, Some, None, unwrap_or, Float}
 use Rattle.std.specs.Float.{fin}
 use Rattle.refusal.specs.Said.{Told, gives, refused}
 use Rattle.effects.specs.declared.LoadEffect.{LoadEffect}
@@ -8,7 +8,6 @@ use Rattle.effects.specs.Check.{load_effect, checked_from}
 use Rattle.column.specs.declared.Column.{Column}
 use Rattle.sheet_text.specs.Written.{written}
 use Rattle.sheet_writer.specs.declared.SheetDoubles.{SheetDoubles}
-use Rattle.sheet_writer.specs.declared.Written.{Written}
 
 -- 02, CR 2: an effect by its place among the "six whole effects", from 1
 abbrev pub Placed : Type 0
@@ -58,7 +57,14 @@ unfoldable pub sized : Told (Option Placed) (List ℕ) → Told (Option Placed) 
 sized (gives text) = gives (length text)
 sized (refused n p) = refused n p
 
--- 02, CR 2: the same in numbers alone, as a program in C or Rust is answered
+-- 02, CR 2: the same in numbers alone, as a program in C or Rust is answered: the number, 0 where the sheet is written; the place
+-- and the double of the effect that is refused; and how many bytes are put
+pub record Written : Type 0 where
+  pub number : ℕ
+  pub place : ℕ
+  pub double : Float
+  pub length : ℕ
+
 unfoldable pub saved_of : Told (Option Placed) (List ℕ) → Written
 saved_of (gives text) = record { number = 0; place = 0; double = no_effect.double; length = length text }
 saved_of (refused n p) = let e = unwrap_or p no_effect in record { number = n; place = e.load; double = e.double; length = 0 }

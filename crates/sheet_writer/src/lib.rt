@@ -35,17 +35,6 @@ pub struct SheetDoubles {
     pub quake: f64,
 }
 
-// What writing gives a program in C or Rust: the number of the refusal, 0 where the sheet is written; the place of the refused
-// effect, 1 for dead to 6 for quake, and its double as it came; and how many bytes were put. The rest is 0.
-#[repr(C)]
-#[derive(Clone, Copy)]
-pub struct Written {
-    pub number: u64,
-    pub place: u64,
-    pub double: f64,
-    pub length: usize,
-}
-
 // An effect of a sheet that is refused: the place of its load, 1 for dead to 6 for quake, and its double as it came.
 pub type Placed = LoadEffect<u64>;
 

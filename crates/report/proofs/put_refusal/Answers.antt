@@ -11,4 +11,4 @@ returns c =
     let size : 4096 ≤ length c.args.out.now = search rules in
     let most = refusal_most c.args.number c.args.line (search rules) (search rules) in
     let p = put_front _ (refusal_line c.args.number c.args.line) c.put_refusal_line.ensures refl (omega (arith, most)) in
-    record { value = p.ends; out_after = p.is; prefix_len = p.counts }
+    record { length = p.ends; put = p.is; prefix_len = p.counts }

@@ -6,9 +6,8 @@ use Rattle.text.specs.Lines.{ended, text_of}
 use Rattle.text.specs.theorems.Texts.{newlines}
 use Rattle.sheet_lines.specs.declared.Due.{Due}
 use Rattle.sheet.specs.declared.Sheet.{Sheet}
-use Rattle.sheet.specs.declared.Reading.{Reading}
 use Rattle.sheet.specs.declared.steps.Draft.{Draft}
-use Rattle.sheet.specs.Sheet.{unread, is_complete, line_taken, reading, read_sheet}
+use Rattle.sheet.specs.Sheet.{Reading, unread, is_complete, line_taken, reading, read_sheet}
 use Rattle.sheet.specs.Keeps.{Keeps}
 use Rattle.sheet.specs.inner.SoFar.{KeepsSoFar}
 use Rattle.sheet_text.specs.Written.{lines_in, written}

@@ -7,14 +7,12 @@ use Rattle.refusal.specs.Said.{gives}
 use Rattle.text.specs.Put.{fronted}
 use Rattle.column.specs.declared.Column.{Column}
 use Rattle.column.specs.Column.{Reached}
-use Rattle.sheet.specs.declared.Reading.{Reading}
 use Rattle.sheet.specs.declared.Sheet.{Sheet}
-use Rattle.sheet.specs.Sheet.{read_sheet}
+use Rattle.sheet.specs.Sheet.{Reading, read_sheet}
 use Rattle.sheet.specs.Keeps.{EffectsWithin, Keeps}
 use Rattle.sheet_text.specs.Written.{written}
 use Rattle.sheet_writer.specs.declared.SheetDoubles.{SheetDoubles}
-use Rattle.sheet_writer.specs.declared.Written.{Written}
-use Rattle.sheet_writer.specs.Saving.{six_checked, no_effect, saving, saved_text, saved_of}
+use Rattle.sheet_writer.specs.Saving.{Written, six_checked, no_effect, saving, saved_text, saved_of}
 
 -- what the call answers that writes a column and six effects to this buffer, and the buffer then, as its contract says
 abbrev pub answered : Column → SheetDoubles → List ℕ → Written
