@@ -17,7 +17,7 @@ const ROOM: usize = sheet::LONGEST + 1;
 // the whole buffer, so it comes with the count of its bytes that were read.
 fn put_printed(buffer: &[u8], count: usize, out: &mut [u8; report::ROOM]) -> usize
     requires { IsPrefixLen count buffer.now × (longest < length buffer.now) }
-    ensures out_after { take result out.new ≡ report_of (take count buffer.now) }
+    ensures printed { take result out.new ≡ report_of (take count buffer.now) }
     ensures prefix_len { IsPrefixLen result out.new }
 {
     report::put_printed(&buffer[..count], out)

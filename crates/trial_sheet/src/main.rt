@@ -9,6 +9,7 @@ use sheet::SheetRef;
 use sheet_writer::SheetDoubles;
 use std::io;
 use std::io::{BufWriter, Read, Write};
+use std::ops::Range;
 
 // More than the stored sheets take.
 const ROOM: usize = 1048576;
@@ -56,15 +57,14 @@ fn answer<W: Write>(out: &mut W, text: &[u8]) -> io::Result<()> {
     let size = report::put_printed(text, &mut printed);
     out.write_all(&printed[..size])?;
     let reading = sheet::read(text);
-    let start = reading.start;
-    let end = reading.end;
+    let Range { start, end } = reading.stop.part;
     write!(out, "start={start} end={end} part=")?;
     out.write_all(sheet::offending(text))?;
     writeln!(out)?;
-    if reading.number == 0 {
-        return write_back(out, text, reading.sheet.lend());
+    match reading.refusal {
+        None => write_back(out, text, reading.sheet.lend()),
+        Some(_) => Ok(()),
     }
-    Ok(())
 }
 
 // The number that a line `sheet` gives.

@@ -1,5 +1,5 @@
 -- `report::report` meets its contract: a sheet that is read is put whole, of a refused one nothing. Assumes nothing.
-use Rattle.std.proofs.Common.{◌≡◌, refl, ◌∙◌, ap, List, [], ℕ, ◌≤◌, arith, length, rules}
+use Rattle.std.proofs.Common.{◌≡◌, refl, ap, List, [], ℕ, ◌≤◌, arith, length, rules}
 use Rattle.std.specs.Prelude.{None}
 use Rattle.text.specs.Put.{fronted}
 use Rattle.text.proofs.Puts.{Front, put_front}

@@ -1,5 +1,5 @@
 -- `sheet::offending` meets its contract: the part lies within the text. Assumes nothing.
-use Rattle.std.proofs.Common.{refl, arith, length}
+use Rattle.std.proofs.Common.{length}
 use Rattle.std.proofs.Math.Path.{subst⁻¹}
 use Rattle.sheet.specs.Sheet.{reading_told, offending_of, offending_at}
 use Rattle.sheet.proofs.ReadOn.{PartOf, read_part}

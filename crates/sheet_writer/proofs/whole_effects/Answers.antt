@@ -2,6 +2,7 @@
 use Rattle.std.proofs.Common.{◌≡◌, ◌∙◌, refl, ap, rules, [], ◌∷◌, Some}
 use Rattle.refusal.specs.Said.{told, gives}
 use Rattle.refusal.proofs.Mapped.{told_mapped}
+use Rattle.effects.specs.Check.{checked_from}
 use Rattle.sheet_writer.specs.Saving.{six_listed, six_checked, if_whole}
 use Rattle.sheet_writer.proofs.whole_effects.Goals as goal
 use Rattle.sheet_writer.proofs.whole_effects.Goals.{After-check_each}

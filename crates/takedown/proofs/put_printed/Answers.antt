@@ -11,6 +11,6 @@ pub returns : goal.returns
 returns c =
     let p = c.put_printed.ensures in
     record {
-      out_after = rw (p.value, p.out_after) (fronted_take (report_of (take c.args.count c.args.buffer.now)) _);
+      printed = rw (p.length, p.put) (fronted_take (report_of (take c.args.count c.args.buffer.now)) _);
       prefix_len = p.prefix_len;
     }
