@@ -33,7 +33,8 @@ pub enum Form {
 }
 
 // The numbers of a line, each behind its key, up to the end of the line; none where the line has not
-// these keys and numbers. How many keys there are is asked: an array of N texts has no proof yet.
+// these keys and numbers. How many keys there are is asked: of an array of texts whose length is a parameter the kit
+// makes no proof (tried again with rattle-kit-13f: "the borrow checker does not cover this function yet").
 fn read_fields<const N: usize>(line: &[u8], keys: &[&[u8]]) -> Option<[u64; N]>
     requires { length keys.now ≡ N }
     ensures { result ≡ fields_from [] (map (λ key. key.now) keys.now) line.now 0 }
