@@ -39,7 +39,7 @@ module _ {m : Member} {n : ℕ} {places : List ℕ} (reached : Reached (column_f
     refused_in_place some is = sym (entered_refused col l _ some (sym (is ∙ entry)))
 
     -- where none does there is room for the line, it is within its limits, and it joins the lines
-    pub room : 0 ≡ first_condition m n last l → (n < 256) × InLimits l
+    room : 0 ≡ first_condition m n last l → (n < 256) × InLimits l
     room is = no_condition m n last l (sym is)
 
     pub joined_in_place : 0 ≡ first_condition m n last l

@@ -1,6 +1,8 @@
 // The conditions for entering a line, in the order in which they are checked.
-ghost use Rattle.std.specs.Prelude.{◌≡◌};
+ghost use Rattle.std.specs.Prelude.{◌≡◌, ◌<◌, IfOk};
 ghost use Rattle.column.specs.Accepted.{first_condition};
+ghost use Rattle.column.specs.Line.{most_lines};
+ghost use Rattle.column.specs.inner.Sound.{InLimits};
 ghost use Rattle.refusal.specs.Said.{number_told};
 
 use crate::{Line, Member};
@@ -11,10 +13,11 @@ use refusal::Refusal;
 const MOST_LINES: u64 = crate::LINES as u64;
 
 // Refuses a line by the first condition that holds for it, where a member holds so many lines and the last one has
-// this floor. None of paper 01's looks at the member.
-#[tactic(auto, unfolding(crate::specs::Accepted::first_condition, refusal::specs::Said::number_told, refusal::specs::Refusal::number_of))]
+// this floor; one that is accepted is within its limits, and there is room for it. None of paper 01's looks at the member.
+#[tactic(auto, unfolding(crate::specs::Accepted::first_condition, refusal::specs::Said::number_told, refusal::specs::Refusal::number_of), using(member::proofs::Tests::limits))]
 pub fn check(member: Member, count: u64, last: u64, line: Line) -> Result<(), Refusal>
-    ensures { number_told result ≡ first_condition member count last line }
+    ensures number { number_told result ≡ first_condition member count last line }
+    ensures accepted { IfOk result (λ _. (count < most_lines) × InLimits line) }
 {
     if MOST_LINES <= count {
         return Err(Refusal::TooManyLines);
