@@ -1,12 +1,13 @@
 // Opening, entering and pasting for programs in C and Rust; a column is lent in its parts, and changed in place.
 ghost use Rattle.std.specs.Prelude.{◌≡◌, []};
 ghost use Rattle.column.specs.Line.{line, entries_of};
-ghost use Rattle.column.specs.Column.{column_of, column_from, member_of, unopened, opened_of, entered_of, Reached};
+ghost use Rattle.column.specs.Column.{column_of, column_from, member_of, unopened, opened_of, opened_as, entered_of, Reached};
 ghost use Rattle.column.specs.Pasted.{pasted_of};
 ghost use Rattle.exports.specs.Changed.{outcome_of, opened_outcome, joined_outcome, pasted_outcome};
 
 use column::{Column, LINES, Line, Member, Places, in_place};
 use member::TributaryArea;
+use refusal::Refusal;
 
 // What opening a member gives: the paper's number, 0 where none holds, and the column, which is without a member where
 // opening is refused.
@@ -55,39 +56,58 @@ fn unopened() -> Column
     }
 }
 
+impl From<Result<Column, Refusal>> for BungeroOpened {
+    ghost from_gives = { λ answer opened. outcome_of opened ≡ opened_as (λ c. c) answer };
+
+    #[tactic(auto, unfolding(crate::specs::Changed::outcome_of, column::specs::Column::opened_as))]
+    fn from(answer: Result<Column, Refusal>) -> BungeroOpened {
+        match answer {
+            Ok(column) => BungeroOpened { number: 0, column },
+            Err(refusal) => BungeroOpened {
+                number: refusal.number(),
+                column: unopened(),
+            },
+        }
+    }
+}
+
+impl From<Result<Member, Refusal>> for BungeroOpenedMember {
+    ghost from_gives = { λ answer opened. opened_outcome opened ≡ opened_as (λ m. column_of m []) answer };
+
+    #[tactic(auto, unfolding(crate::specs::Changed::opened_outcome, column::specs::Column::opened_as, column::specs::Column::column_of))]
+    fn from(answer: Result<Member, Refusal>) -> BungeroOpenedMember {
+        match answer {
+            Ok(member) => BungeroOpenedMember { number: 0, member },
+            Err(refusal) => BungeroOpenedMember {
+                number: refusal.number(),
+                member: Member { code: 0 },
+            },
+        }
+    }
+}
+
 // Opens a member.
-#[tactic(auto, unfolding(crate::specs::Changed::outcome_of, column::specs::Column::opened_as), using(refusal::proofs::Said::number_positive))]
+#[tactic(auto, using(crate::proofs::Opened::reached_whole))]
 #[unsafe(no_mangle)]
 pub extern "C" fn bungero_open(code: u64) -> BungeroOpened
     ensures opened { outcome_of result ≡ opened_of (member_of code) }
     ensures reached { result.number ≡ 0 → Reached result.column }
 {
-    match Column::open(code) {
-        Ok(column) => BungeroOpened { number: 0, column },
-        Err(refusal) => BungeroOpened {
-            number: refusal.number(),
-            column: unopened(),
-        },
-    }
+    Column::open(code).into()
 }
 
 // Opens a member for a caller that has the places of its column itself, each of them 0.
-#[tactic(auto, unfolding(crate::specs::Changed::opened_outcome, column::specs::Column::opened_as, column::specs::Column::column_of), using(refusal::proofs::Said::number_positive, column::proofs::Reach::given_reached))]
+#[tactic(auto, using(crate::proofs::Opened::reached_empty))]
 #[unsafe(no_mangle)]
 pub extern "C" fn bungero_open_member(code: u64) -> BungeroOpenedMember
     ensures opened { opened_outcome result ≡ opened_of (member_of code) }
     ensures reached { result.number ≡ 0 → Reached (column_of result.member []) }
 {
-    match Member::open(code) {
-        Ok(member) => BungeroOpenedMember { number: 0, member },
-        Err(refusal) => BungeroOpenedMember {
-            number: refusal.number(),
-            member: Member { code: 0 },
-        },
-    }
+    Member::open(code).into()
 }
 
-// Enters a line on the column of this member with so many lines, whose numbers are in the lent places.
+// Enters a line on the column of this member with so many lines, whose numbers are in the lent places. No `From` of what
+// entering gives: where the line is refused the count is the caller's, which that has not.
 #[tactic(auto, unfolding(crate::specs::Changed::joined_outcome, column::specs::Column::entered_outcome, column::specs::Column::count_after, refusal::specs::Said::number_told))]
 #[unsafe(no_mangle)]
 pub extern "C" fn bungero_enter(
@@ -100,13 +120,13 @@ pub extern "C" fn bungero_enter(
     area: u64,
 ) -> BungeroEntered
     requires { Reached (column_from member count held.old) }
-    ensures held_after { joined_outcome member result held.new ≡ entered_of (column_from member count held.old) (line floor class load area) }
+    ensures entered { joined_outcome member result held.new ≡ entered_of (column_from member count held.old) (line floor class load area) }
     ensures reached { Reached (column_from member result.count held.new) }
 {
     let line = Line {
-        floor: floor,
-        class: class,
-        load: load,
+        floor,
+        class,
+        load,
         area: TributaryArea(area),
     };
     match in_place::enter(held, member, count, line) {
@@ -120,7 +140,7 @@ pub extern "C" fn bungero_enter(
 
 // Pastes a list of lines, four numbers a line, on such a column: enters them in order, up to and with the first
 // refused one.
-#[tactic(auto, unfolding(crate::specs::Changed::pasted_outcome, column::specs::Pasted::paste_outcome, column::specs::Pasted::number_or_0))]
+#[tactic(auto, unfolding(crate::specs::Changed::pasted_outcome, column::specs::Pasted::paste_outcome, column::specs::Pasted::number_or_0), using(column::proofs::InPlace::reached_few))]
 #[unsafe(no_mangle)]
 pub extern "C" fn bungero_paste(
     held: &mut Places,
@@ -129,7 +149,7 @@ pub extern "C" fn bungero_paste(
     lines: &[u64],
 ) -> BungeroPasted
     requires { Reached (column_from member count held.old) }
-    ensures held_after { pasted_outcome member result held.new ≡ pasted_of (column_from member count held.old) (entries_of lines.now) }
+    ensures pasted { pasted_outcome member result held.new ≡ pasted_of (column_from member count held.old) (entries_of lines.now) }
     ensures reached { Reached (column_from member result.count held.new) }
 {
     let pasted = in_place::paste(held, member, count, lines);

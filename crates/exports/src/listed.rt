@@ -12,7 +12,7 @@ use refusal::Refused;
 // What the list call gives: the paper's number, 0 where none holds, and the place of the refused line,
 // 0 where it is none; and n, X and the figure, which are 0 where the list is refused.
 #[repr(C)]
-#[derive(Clone, Copy)]
+#[derive(Clone, Copy, Default)]
 pub struct BungeroListed {
     pub number: u64,
     pub place: u64,
@@ -21,26 +21,26 @@ pub struct BungeroListed {
     pub figure: u64,
 }
 
-// The numbers of what the list call gave.
-#[tactic(auto, unfolding(crate::specs::Exported::shown_listed, refusal::specs::Said::told))]
-fn listed_out(listed: Result<Working, Refused<u64>>) -> BungeroListed
-    ensures { result ≡ shown_listed (told listed) }
-{
-    match listed {
-        Ok(working) => BungeroListed {
-            number: 0,
-            place: 0,
-            floors: working.floors,
-            influence: working.influence.0,
-            figure: working.figure,
-        },
-        Err(refused) => BungeroListed {
-            number: refused.refusal.number(),
-            place: refused.back,
-            floors: 0,
-            influence: 0,
-            figure: 0,
-        },
+// Apart from BungeroFigure's, with which it shares three fields: C's structs are flat, and a `From` of the Working for both
+// would have to be taken apart again.
+impl From<Result<Working, Refused<u64>>> for BungeroListed {
+    ghost from_gives = { λ answer listed. listed ≡ shown_listed (told answer) };
+
+    #[tactic(auto, unfolding(crate::specs::Exported::shown_listed, refusal::specs::Said::told))]
+    fn from(answer: Result<Working, Refused<u64>>) -> BungeroListed {
+        match answer {
+            Ok(working) => BungeroListed {
+                floors: working.floors,
+                influence: working.influence.0,
+                figure: working.figure,
+                ..BungeroListed::default()
+            },
+            Err(refused) => BungeroListed {
+                number: refused.refusal.number(),
+                place: refused.back,
+                ..BungeroListed::default()
+            },
+        }
     }
 }
 
@@ -49,5 +49,5 @@ fn listed_out(listed: Result<Working, Refused<u64>>) -> BungeroListed
 pub extern "C" fn bungero_figure_of(code: u64, lines: &[Line], floor: u64) -> BungeroListed
     ensures { result ≡ shown_listed (listed_of (member_of code) lines.now floor) }
 {
-    listed_out(records::figure_of(code, lines, floor))
+    records::figure_of(code, lines, floor).into()
 }
