@@ -21,8 +21,7 @@ pub struct BungeroListed {
     pub figure: u64,
 }
 
-// Apart from BungeroFigure's, with which it shares three fields: C's structs are flat, and a `From` of the Working for both
-// would have to be taken apart again.
+// The working is told as BungeroFigure tells it: C's structs are flat, and one for both would be taken apart again.
 impl From<Result<Working, Refused<u64>>> for BungeroListed {
     ghost from_gives = { λ answer listed. listed ≡ shown_listed (told answer) };
 
