@@ -29,7 +29,7 @@ unfolding put_all
 put_same o [] = refl
 put_same o (v ∷ vs) = put_same (put_text o v) vs ∙ (one_same o v).0
 
-put_length : (o : Output) (vs : List (List ℕ)) → length (put o vs).buffer.now ≡ length o.buffer.now
+pub put_length : (o : Output) (vs : List (List ℕ)) → length (put o vs).buffer.now ≡ length o.buffer.now
 unfolding put_all
 put_length o [] = refl
 put_length o (v ∷ vs) = put_length (put_text o v) vs ∙ (one_same o v).1
