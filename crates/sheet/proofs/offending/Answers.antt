@@ -1,5 +1,5 @@
 -- `sheet::offending` meets its contract: the part lies within the text. Assumes nothing.
-use Rattle.std.proofs.Common.{length}
+use Rattle.std.proofs.Common.{arith, length}
 use Rattle.std.proofs.Math.Path.{subst⁻¹}
 use Rattle.sheet.specs.Sheet.{reading_told, offending_of, offending_at}
 use Rattle.sheet.proofs.ReadOn.{PartOf, read_part}
@@ -12,15 +12,15 @@ part c = subst⁻¹ (PartOf _) c.read.ensures.read (read_part c.args.text.now)
 
 pub slice_bounds-result-count : goal.slice_bounds-result-count
 unfolding reading_told
-slice_bounds-result-count c = (part (goal.at.slice_bounds-result-count c).After-read).order
+slice_bounds-result-count c = let p = part (goal.at.slice_bounds-result-count c).After-read in omega (arith, p.order, p.inside)
 
 pub slice_bounds-result-start : goal.slice_bounds-result-start
 unfolding reading_told
-slice_bounds-result-start c = (part (goal.at.slice_bounds-result-start c).After-read).order
+slice_bounds-result-start c = let p = part (goal.at.slice_bounds-result-start c).After-read in omega (arith, p.order, p.inside)
 
 pub slice_bounds-result-end : goal.slice_bounds-result-end
 unfolding reading_told
-slice_bounds-result-end c = (part (goal.at.slice_bounds-result-end c).After-read).inside
+slice_bounds-result-end c = let p = part (goal.at.slice_bounds-result-end c).After-read in omega (arith, p.order, p.inside)
 
 pub returns-clause-part : goal.returns-clause-part
 unfolding offending_of reading_told
