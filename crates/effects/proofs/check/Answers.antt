@@ -1,5 +1,5 @@
 -- `effects::check` meets its contract: seven numbers are one for each load. Assumes nothing.
-use Rattle.std.proofs.Common.{◌≡◌, ◌∙◌, ap, sym, List, [], ◌∷◌, ℕ, arith, lit<, ℤ, pos, get_or, w64, to_z, of_z}
+use Rattle.std.proofs.Common.{◌≡◌, ◌∙◌, sym, List, [], ◌∷◌, ℕ, arith, lit<, ℤ, pos, get_or, w64, to_z, of_z}
 use Rattle.std.proofs.lemmas.Result.{err_from_is_err_and}
 use Rattle.refusal.specs.Said.{told}
 use Rattle.newtons.specs.Effect.{limit}
@@ -13,10 +13,7 @@ use Rattle.effects.proofs.check.Goals.{After-check_each}
 -- what is checked are the effects as listed
 tells : (c : After-check_each) → told c.check_each.result ≡ checked_of c.args.effects
 unfolding checked_of listed
-tells c = c.check_each.ensures ∙ ap (λ es. checked_from [] es) list
-  where
-    list : (c.new.result ∷ c.new-2.result ∷ c.new-3.result ∷ c.new-4.result ∷ c.new-5.result ∷ c.new-6.result ∷ c.new-7.result ∷ []) ≡ listed c.args.effects
-    list = rw (c.new.ensures, c.new-2.ensures, c.new-3.ensures, c.new-4.ensures, c.new-5.ensures, c.new-6.ensures, c.new-7.ensures)
+tells c = c.check_each.ensures ∙ λ i. checked_from [] (c.new.ensures i ∷ c.new-2.ensures i ∷ c.new-3.ensures i ∷ c.new-4.ensures i ∷ c.new-5.ensures i ∷ c.new-6.ensures i ∷ c.new-7.ensures i ∷ [])
 
 pub returns-in_err-dead : goal.returns-in_err-dead
 unfolding said_checked told

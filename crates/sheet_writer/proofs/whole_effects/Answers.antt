@@ -10,10 +10,7 @@ use Rattle.sheet_writer.proofs.whole_effects.Goals.{After-check_each}
 -- what is checked are the effects as listed
 tells : (c : After-check_each) → told c.check_each.result ≡ six_checked c.args.effects
 unfolding six_checked six_listed
-tells c = c.check_each.ensures ∙ ap (λ es. checked_from [] es) list
-  where
-    list : (c.new.result ∷ c.new-2.result ∷ c.new-3.result ∷ c.new-4.result ∷ c.new-5.result ∷ c.new-6.result ∷ []) ≡ six_listed c.args.effects
-    list = rw (c.new.ensures, c.new-2.ensures, c.new-3.ensures, c.new-4.ensures, c.new-5.ensures, c.new-6.ensures)
+tells c = c.check_each.ensures ∙ λ i. checked_from [] (c.new.ensures i ∷ c.new-2.ensures i ∷ c.new-3.ensures i ∷ c.new-4.ensures i ∷ c.new-5.ensures i ∷ c.new-6.ensures i ∷ [])
 
 pub returns : goal.returns
 unfolding if_whole

@@ -1,5 +1,5 @@
 -- `column::in_place::paste` meets its contract: pasting what is left gives what pasting all from the start gives. Assumes nothing.
-use Rattle.std.proofs.Common.{◌≡◌, refl, sym, ◌∙◌, ap, List, ℕ, ◌+◌, ◌-◌, ◌≤◌, arith, Result, Ok, Err}
+use Rattle.std.proofs.Common.{◌≡◌, refl, sym, ◌∙◌, ap, List, ℕ, ◌+◌, ◌-◌, ◌≤◌, arith, Option, Some, None, Result, Ok, Err}
 use Rattle.refusal.specs.declared.Refusal.{Refusal}
 use Rattle.refusal.specs.Refusal.{number_of}
 use Rattle.refusal.specs.Said.{number_told}
@@ -7,15 +7,22 @@ use Rattle.refusal.proofs.Said.{number_positive}
 use Rattle.column.specs.declared.Member.{Member}
 use Rattle.column.specs.Accepted.{last_floor}
 use Rattle.column.specs.Column.{Outcome, lines_of, column_from, Reached, count_after, entered_outcome}
-use Rattle.column.specs.Pasted.{number_or_0, paste_outcome}
+use Rattle.column.specs.Pasted.{Pasting, number_or_0, paste_outcome}
 use Rattle.column.proofs.InPlace.{reached_held}
 use Rattle.column.proofs.Pasting.{pasted_next, pasted_end, pasted_none}
 use Rattle.column.proofs.Reach.{entered_count, entered_last}
 use Rattle.column.proofs.in_place.paste.Goals as goal
 
--- the kept lines beside those that were held
-beside : {count filled : ℕ} → count ≤ filled → count + (filled - count) ≡ filled
-beside h = omega arith
+-- what is answered, told with the column of the kept lines beside those that were held
+answered : {count filled : ℕ} → count ≤ filled → (m : Member) (places : List ℕ) (r : Option Refusal) {p : Pasting}
+    → record { number = number_or_0 r; kept = filled - count; column = column_from m filled places } ≡ p
+    → Reached (column_from m filled places)
+    → let c = column_from m (count + (filled - count)) places in
+    (paste_outcome (record { kept = filled - count; refusal = r }) c ≡ p) × Reached c
+unfolding paste_outcome
+answered {count} {filled} h m places r told reached =
+    let beside : count + (filled - count) ≡ filled = omega (arith, h) in
+    rw beside (told, reached)
 
 -- what entering a line gave, where it was kept and where it was refused
 module _ (m : Member) (n : ℕ) {r : Result ℕ Refusal} {places : List ℕ} {o : Outcome} (entered : entered_outcome m n r places ≡ o) (reached : Reached (column_from m (count_after n r) places)) where
@@ -45,14 +52,14 @@ pub enter_below-entered-requires : goal.enter_below-entered-requires
 enter_below-entered-requires c = record { reached = c.loop-line.invariant.reached; last = c.loop-line.invariant.last }
 
 pub returns-in-Err : goal.returns-in-Err
-unfolding paste_outcome number_or_0
+unfolding number_or_0
 returns-in-Err c =
+    let l = c.loop-line.invariant in
     let entered = c.enter_below-entered.ensures in
     let now = stopped c.args.member c.loop-line.filled entered.entered entered.reached c.in-Err.is in
-    rw (beside c.loop-line.invariant.filled) (record {
-      pasted = pasted_end _ _ _ _ _ now.0 (number_positive c.in-Err.refusal) ∙ (rw c.in-Some.ensures.steps at c.loop-line.invariant.pasted);
-      reached = now.1;
-    })
+    let told = pasted_end _ _ _ _ _ now.0 (number_positive c.in-Err.refusal) ∙ (rw c.in-Some.ensures.steps at l.pasted) in
+    let a = answered l.filled c.args.member c.enter_below-entered.new.held (Some c.in-Err.refusal) told now.1 in
+    record { pasted = a.0; reached = a.1 }
 
 pub loop-line-preserved : goal.loop-line-preserved
 loop-line-preserved c =
@@ -71,9 +78,9 @@ loop-line-preserved c =
     }
 
 pub returns : goal.returns
-unfolding paste_outcome number_or_0
+unfolding number_or_0
 returns c =
-    rw (beside c.loop-line.invariant.filled) (record {
-      pasted = sym (pasted_none _ (column_from c.args.member c.loop-line.filled c.loop-line.held)) ∙ (rw c.in-None.ensures.steps.0 at c.loop-line.invariant.pasted);
-      reached = c.loop-line.invariant.reached;
-    })
+    let l = c.loop-line.invariant in
+    let told = sym (pasted_none _ (column_from c.args.member c.loop-line.filled c.loop-line.held)) ∙ (rw c.in-None.ensures.steps.0 at l.pasted) in
+    let a = answered l.filled c.args.member c.loop-line.held None told l.reached in
+    record { pasted = a.0; reached = a.1 }
