@@ -416,6 +416,23 @@ class Faults(Made):
             code = LOW.replace("{ Reached (Sort n.now) }", f"{{ {asked} }}")
             self.said(["low::asked can be reached, and asks more"], "crates/low/src/lib.rt", code)
 
+    def test_lent_sheet(self):
+        """A sheet that is lent asks that it keeps the limits: just so, and nothing else asks that."""
+        lend, within = ("sheet::Sheet::lend", "requires"), ("sheet::SheetRef.within", "ghost")
+        for (function, kind), text, allowed in (
+            (lend, "{ Keeps self.now }", True),
+            (lend, "{\n Keeps self.now\n }", True),
+            (lend, "{ Keeps self.now × Sort self.now }", False),
+            (lend, "{ ∥ EffectsWithin effects ∥₁ }", False),
+            (within, "{ ∥ EffectsWithin effects ∥₁ }", True),
+            (within, "{ EffectsWithin effects }", False),
+            (within, "{ ∥ EffectsWithin effects ∥₁ × low_enough 1 }", False),
+            (("report::report", "requires"), "{ Keeps self.now }", False),
+            (("sheet::Sheet.within", "ghost"), "{ ∥ EffectsWithin effects ∥₁ }", False),
+        ):
+            made = contracts.Contract(function, [(kind, text)], definitions.Names(), True, True, asks=kind == "ghost")
+            self.assertEqual(contracts.asked_too_much(made), [] if allowed else [text], (function, text))
+
     def test_unreached(self):
         """A definition at the top that no contract reaches, and one on a shelf that there is not."""
         spare = "\n-- 01, The sheet: spare\nabbrev pub spare : ℕ\nspare = 0\n"

@@ -18,7 +18,7 @@ OURS = "Here: "  # how a point begins that is not the paper's
 ORDER = ("The work", *SECTIONS[:7], SECTIONS[8], SECTIONS[7], *REQUESTS.values())
 GROUP = re.compile(r"((?:`[^`]+`(?:, | and ))*`[^`]+`) \(`([^`]+)`\)")
 KEYWORDS = r"(?:(?:unfoldable|abbrev|pub|data|record|module) +)*"
-MOST_LINES = 780  # what a reviewer can hold against the paper in an afternoon; whoever raises it says why in DECISIONS
+MOST_LINES = 800  # what a reviewer can hold against the paper in an afternoon; whoever raises it says why in DECISIONS
 
 
 @dataclass

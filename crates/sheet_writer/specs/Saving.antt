@@ -65,6 +65,7 @@ pub record Written : Type 0 where
   pub double : Float
   pub length : ℕ
 
+-- 02, CR 2: those numbers of what writing gives
 unfoldable pub saved_of : Told (Option Placed) (List ℕ) → Written
 saved_of (gives text) = record { number = 0; place = 0; double = no_effect.double; length = length text }
 saved_of (refused n p) = let e = unwrap_or p no_effect in record { number = n; place = e.load; double = e.double; length = 0 }
