@@ -1,7 +1,7 @@
 -- How long the printed lines are, and that all of them find room in 4096 bytes.
 -- Assumes nothing.
 use Rattle.std.proofs.Common.{◌≡◌, refl, Bool, List, ℕ, zero, suc, ◌+◌, ◌*◌, ◌≤◌, arith, ℤ, nat_abs, length, length-append, w64, Fits}
-use mathlib.Core.Path.{subst⁻¹}
+use Rattle.std.proofs.Math.Path.{subst⁻¹}
 use Rattle.text.specs.Text.{bytes_of, joined, decimal, signed_decimal}
 use Rattle.text.proofs.Puts.{joined_append, joined_length}
 use Rattle.text.proofs.Decimal.{length_most}

@@ -1,7 +1,7 @@
 -- What the report puts and answers, by what reading gave; and that with the line of a refusal it is all that takedown prints.
 -- Assumes nothing.
 use Rattle.std.proofs.Common.{◌≡◌, refl, sym, ◌∙◌, ap, List, [], ℕ, ◌≤◌, length, eq-eqb}
-use mathlib.Core.Path.{subst⁻¹}
+use Rattle.std.proofs.Math.Path.{subst⁻¹}
 use Rattle.refusal.proofs.Said.{not_zero}
 use Rattle.text.specs.Text.{joined}
 use Rattle.text.specs.Put.{fronted}

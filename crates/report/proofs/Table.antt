@@ -1,10 +1,10 @@
 -- The table of a column's workings says what asking at each floor gives.
 -- Assumes nothing.
 use Rattle.std.proofs.Common.{◌≡◌, refl, sym, ◌∙◌, ap, [], ◌∷◌, ◌++◌, ℕ, zero, suc, ◌≤◌, ◌<◌, lt_of_not-le, arith, get_or}
-use native.Mathlib.Decide.{dec_le}
-use lib.ListN.{get_or-append}
-use lib.Seq.{get_or-append_seam}
 use Rattle.std.specs.Prelude.{None}
+use Rattle.std.proofs.Math.Decide.{dec_le}
+use Rattle.std.proofs.Math.ListN.{get_or-append}
+use Rattle.std.proofs.Math.Seq.{get_or-append_seam}
 use Rattle.refusal.specs.Said.{Said, gives, refused}
 use Rattle.column.specs.declared.Column.{Column}
 use Rattle.figure.specs.declared.Working.{Working}

@@ -1,9 +1,6 @@
 -- Reading keeps the limits: line by line, and so for a whole sheet.
 -- Assumes nothing.
 use Rattle.std.proofs.Common.{◌≡◌, refl, ◌∙◌, subst, Bool, true, false, cond, List, [], ◌∷◌, ℕ, ◌+◌, ◌≤◌, ◌<◌, arith, leb, ltb, eqb, ℤ, pos, length, get_or, length-set, leb-true, eqb-true, ne_eqb}
-use mathlib.Core.Path.{subst⁻¹}
-use mathlib.Core.Bool.{false≢true}
-use borrow.Author.Tests.{eqb-false}
 use Rattle.lists.proofs.Lists.{all_set, all_same, all_at}
 use Rattle.column.specs.Column.{member_of, unopened, Reached}
 use Rattle.column.proofs.Reach.{reached_opened, reached_entered}
@@ -13,6 +10,8 @@ use Rattle.sheet_lines.specs.declared.Due.TheVariants as D
 use Rattle.sheet_lines.specs.declared.Form.{Form}
 use Rattle.refusal.specs.Said.{Said, gives, refused}
 use Rattle.std.specs.Prelude.{Option}
+use Rattle.std.proofs.Math.Path.{subst⁻¹}
+use Rattle.std.proofs.lemmas.Bool.{false≢true, eqb-false}
 use Rattle.sheet_lines.specs.declared.Form.TheVariants as F
 use Rattle.sheet_lines.specs.Form.{effect_count, said_form, line_said}
 use Rattle.sheet_lines.specs.theorems.Says.{Says, member, floor, effect}

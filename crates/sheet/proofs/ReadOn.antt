@@ -1,8 +1,8 @@
 -- Reading a text from a place on: at its end, at a line that lacks its newline, and at a line that has one.
 -- Assumes nothing.
 use Rattle.std.proofs.Common.{◌≡◌, ap, Bool, true, false, cond, List, [], ◌∷◌, ◌++◌, ℕ, ◌+◌, ◌-◌, ◌<◌, ◌≤◌, arith, eqb, ltb, length, drop, take, drop_of_length-le, length-drop, length-append, length-take-le, le-ltb}
-use mathlib.Core.Path.{subst⁻¹}
 use Rattle.std.specs.Prelude.{None}
+use Rattle.std.proofs.Math.Path.{subst⁻¹}
 use Rattle.column.specs.Pasted.{number_or_0}
 use Rattle.sheet.specs.declared.ReadSheet.{ReadSheet}
 use Rattle.text.specs.Lines.{ended, Lines, line, rest, split, end_from}

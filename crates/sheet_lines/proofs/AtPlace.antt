@@ -1,13 +1,12 @@
 -- One step of each definition that goes over bytes, at a place of a line; how large a number is and where it ends; and what begins with a key.
 -- Assumes nothing.
-use mathlib.Core.Bool.{false≢true}
-use native.Mathlib.Nat.{pow-le-pow_right}
 use lib.Pointwise.{pointwise}
-use borrow.Author.Tests.{eqb-false}
 use Rattle.std.specs.Prelude.{Option, Some, None, slice_get}
 use Rattle.std.specs.List.{starts_with}
 use Rattle.std.proofs.Common.{inl, inr, ◌≡◌, refl, sym, ◌∙◌, ap, ap₂, subst, Bool, true, false, cond, ◌&&◌, List, [], ◌∷◌, ◌++◌, ℕ, zero, suc, ◌+◌, ◌-◌, ◌*◌, ◌^◌, ◌<◌, ◌≤◌, arith, add-one, pow-suc, length, take, drop, get_or, drop_of_length-le, length-append, length-drop, drop-cons, ltb, eqb, lit≤, lt-ltb, le-ltb, eq-eqb, ne_eqb, eqb-true, ltb-true}
 use Rattle.std.specs.Char.{IsNotAsciiDigit}
+use Rattle.std.proofs.Math.Nat.{pow-le-pow_right}
+use Rattle.std.proofs.lemmas.Bool.{false≢true, eqb-false}
 use Rattle.sheet_lines.specs.declared.number.Read.{Read}
 use Rattle.sheet_lines.specs.Number.{may_grow, number_ended, number_from, begins}
 use Rattle.sheet_lines.specs.inner.InLine.{Small}

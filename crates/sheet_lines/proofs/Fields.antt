@@ -1,11 +1,11 @@
 -- Numbers behind their keys are read where they are written, and nowhere else, for any list of keys.
 -- Assumes nothing.
 use Rattle.std.proofs.Common.{◌≡◌, refl, sym, ◌∙◌, ap, Bool, true, false, cond, List, [], ◌∷◌, ◌++◌, append_assoc, append-nil, ℕ, suc, ◌+◌, ◌≤◌, ◌<◌, arith, eqb, ltb, length, drop, drop_of_length-le, length-append, length-drop, drop-drop, eq-eqb, eqb-true, ltb-true}
-use mathlib.Core.Bool.{false≢true}
-use lib.Seq.{drop-append_seam}
 use Rattle.text.specs.Text.{decimal}
 use Rattle.lists.specs.Lists.{All, none as nil, more}
 use Rattle.std.specs.Prelude.{Option, Some, None}
+use Rattle.std.proofs.Math.Seq.{drop-append_seam}
+use Rattle.std.proofs.lemmas.Bool.{false≢true}
 use Rattle.sheet_lines.specs.declared.number.Read.{Read}
 use Rattle.sheet_lines.specs.Number.{number_at, begins, field_at}
 use Rattle.sheet_lines.specs.Form.{with_number, fields_from}

@@ -2,8 +2,8 @@
 -- Assumes nothing.
 use Rattle.std.proofs.Common.{◌≡◌, refl, sym, ◌∙◌, ap, Bool, true, false, cond, ◌&&◌, List, [], ◌∷◌, ◌++◌, ℕ, ◌+◌, ◌-◌, ◌*◌, ◌≤◌, arith, add_assoc, add-zero, zero-add, eqb, ltb, length, take, drop, length-drop, drop-drop, eq-eqb, ne_eqb, eqb-true}
 use lib.Pointwise.{pointwise}
-use borrow.Author.Tests.{eqb-false}
 use Rattle.std.specs.Prelude.{Option, Some, None, option_map}
+use Rattle.std.proofs.lemmas.Bool.{eqb-false}
 use Rattle.sheet_lines.specs.declared.number.Read.{Read}
 use Rattle.sheet_lines.specs.declared.Form.{Form}
 use Rattle.sheet_lines.specs.declared.Form.TheVariants.{Effect}

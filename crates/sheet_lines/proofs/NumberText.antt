@@ -1,11 +1,11 @@
 -- A number is read where its decimal digits are written, and nowhere else.
 -- Assumes nothing.
 use Rattle.std.proofs.Common.{◌≡◌, refl, ◌∙◌, ap, Bool, true, false, cond, List, [], ◌∷◌, ◌++◌, append_assoc, ℕ, zero, suc, ◌+◌, ◌-◌, ◌*◌, ◌/◌, ◌%◌, ◌^◌, ◌≤◌, ◌<◌, arith, ltb, eqb, length, drop, length-append, drop-drop, lt-ltb, le-ltb, ne_eqb, ltb-true, ltb-false}
-use lib.Seq.{drop-append_seam}
-use borrow.Author.Tests.{eqb-false}
 use Rattle.text.specs.Text.{decimal}
 use Rattle.text.proofs.Decimal.{decimal_small, decimal_more, length_some, length_most, tenth}
 use Rattle.std.specs.Prelude.{Option, Some, None, option_map, unwrap_or}
+use Rattle.std.proofs.Math.Seq.{drop-append_seam}
+use Rattle.std.proofs.lemmas.Bool.{eqb-false}
 use Rattle.sheet_lines.specs.declared.number.Read.{Read}
 use Rattle.sheet_lines.specs.Number.{may_grow, number_ended, number_from, number_at}
 use Rattle.sheet_lines.proofs.AtPlace.{read, chosen, grow_only}

@@ -1,10 +1,6 @@
 -- A line has its form exactly where its text says so.
 -- Assumes nothing.
 use Rattle.std.proofs.Common.{◌≡◌, refl, sym, ◌∙◌, ap, subst, Bool, true, false, cond, ◌&&◌, List, [], ◌∷◌, ◌++◌, append_assoc, append-nil, ℕ, zero, suc, ◌+◌, ◌<◌, arith, eqb, ltb, length, drop, drop_of_length-le, length-drop, drop-drop, ℤ, pos, negsuc, nat_abs, eq-eqb, ne_eqb, lt-ltb, eqb-true, ltb-true}
-use mathlib.Core.Path.{subst⁻¹}
-use mathlib.Core.Bool.{false≢true}
-use lib.Seq.{drop-append_seam, drop-append-add}
-use borrow.Author.Tests.{eqb-false}
 use Rattle.lists.specs.Lists.{All, none as nil, more}
 use Rattle.lists.proofs.Lists.{by_places}
 use Rattle.text.specs.Text.{minus, decimal, signed_decimal}
@@ -12,6 +8,9 @@ use Rattle.text.proofs.Decimal.{length_some, decimal_all}
 use Rattle.text.proofs.Sign.{signed_pos, signed_neg}
 use Rattle.newtons.specs.Effect.{signed}
 use Rattle.std.specs.Prelude.{Option, Some, None, option_map}
+use Rattle.std.proofs.Math.Path.{subst⁻¹}
+use Rattle.std.proofs.Math.Seq.{drop-append_seam, drop-append-add}
+use Rattle.std.proofs.lemmas.Bool.{false≢true, eqb-false}
 use Rattle.sheet_lines.specs.declared.Due.{Due}
 use Rattle.sheet_lines.specs.declared.Due.TheVariants as D
 use Rattle.sheet_lines.specs.declared.Form.{Form}

@@ -1,8 +1,6 @@
 -- What is written is read as it was, what is read is written back, and the room suffices.
 -- Assumes nothing.
 use Rattle.std.proofs.Common.{◌≡◌, refl, sym, ◌∙◌, ap, subst, Bool, true, false, cond, List, [], ◌∷◌, ◌++◌, ℕ, suc, ◌≤◌, ◌<◌, arith, leb, ℤ, pos, nat_abs, Float, length, take, drop, get_or, le-leb}
-use lib.Ieee.{binary64, of_int}
-use borrow.Author.Tests.{lt-leb}
 use Rattle.refusal.specs.Said.{Told, gives, refused}
 use Rattle.lists.specs.Lists.{All, none, more}
 use Rattle.text.specs.Put.{fronted}
@@ -22,6 +20,8 @@ use Rattle.sheet_text.specs.theorems.Exactly.{read_as}
 use Rattle.sheet_text.proofs.Back.{exactly}
 use Rattle.sheet_writer.specs.declared.SheetDoubles.{SheetDoubles}
 use Rattle.std.specs.Prelude.{Option, None}
+use Rattle.std.proofs.lemmas.Bool.{lt-leb}
+use Rattle.std.specs.Float.Ieee.{binary64, of_int}
 use Rattle.sheet_writer.specs.Saving.{Placed, six_listed, six_checked, if_whole, if_room, saving, saved_text, saved_of}
 use Rattle.sheet_writer.specs.theorems.RoundTrip.{Returns, ReadBack, sheet_doubles_of, WrittenBack, AnySheet, EffectsTaken, TouchesNoMore, RoomSuffices}
 use Rattle.sheet_writer.proofs.Checks.{with_room, without_room}

@@ -1,8 +1,8 @@
 -- The digits that the library io puts are those of the definition too.
 -- Assumes nothing.
 use Rattle.std.proofs.Common.{◌≡◌, sym, ◌∙◌, ap, List, [], ◌∷◌, ◌++◌, ℕ, zero, suc, ◌+◌, ◌*◌, ◌/◌, ◌%◌, ◌^◌, ◌≤◌, ◌<◌, le-div_iff_mul-le, pow-suc, arith, lt-ltb}
-use native.Mathlib.Nat.{one-le-pow}
-use native.Mathlib.Numerals.{unary_clauses}
+use Rattle.std.proofs.Math.Nat.{one-le-pow}
+use Rattle.std.proofs.Math.Numerals.{unary_clauses}
 use Rattle.io.specs.Digits.{hex_digit_ascii, last_digits, IsDigitCount}
 use Rattle.text.specs.Text.{decimal}
 use Rattle.text.proofs.Decimal.{decimal_small, decimal_more, tenth}

@@ -1,7 +1,7 @@
 -- How the end of a line was found byte by byte: bytes without a newline are passed over.
 -- Assumes nothing.
 use Rattle.std.proofs.Common.{◌≡◌, refl, sym, ◌∙◌, ap, Bool, true, false, ◌||◌, List, ℕ, zero, suc, ◌+◌, ◌≤◌, ◌<◌, add-zero, arith, eqb, length, drop, get_or, drop_of_length-le, drop-cons}
-use mathlib.Core.Bool.{false≢true}
+use Rattle.std.proofs.lemmas.Bool.{false≢true}
 use Rattle.text.specs.Lines.{newline, index_of, index_after, end_from}
 
 -- the byte at a place, or one of so many after it, is a newline

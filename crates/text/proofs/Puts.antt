@@ -1,7 +1,8 @@
 -- Texts put into a lent buffer: one after another, and where all find room.
 -- Assumes nothing.
 use Rattle.std.proofs.Common.{◌≡◌, refl, sym, ◌∙◌, ap, Bool, true, false, cond, List, [], ◌∷◌, ◌++◌, append_assoc, ℕ, suc, ◌+◌, ◌≤◌, add-zero, zero-add, arith, leb, length, set, take, drop, length-append, length-take-le, take_at, drop_at, le-leb}
-use lib.Seq.{sets, sets-eq, length-sets}
+use Rattle.std.proofs.Math.Seq.{length-sets}
+use Rattle.std.proofs.lemmas.List.Edits.{sets, sets-eq}
 use Rattle.io.specs.Counts.{IsPrefixLen}
 use Rattle.text.specs.Text.{joined}
 use Rattle.text.specs.declared.Output.{Output}

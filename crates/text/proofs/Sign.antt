@@ -1,7 +1,7 @@
 -- A number with its sign: the sign where it is below 0, and its size in digits.
 -- Assumes nothing.
 use Rattle.std.proofs.Common.{◌≡◌, refl, sym, ◌∙◌, ap, subst, true, false, List, [], ◌∷◌, append-nil, ℕ, suc, zero-le, ◌≤◌, arith, T, ℤ, pos, negsuc, nat_abs, length, le-ltb}
-use lib.Signed.{lt_z}
+use Rattle.std.specs.Int.Signed.{lt_z}
 use Rattle.text.specs.Text.{joined, minus, decimal, signed_parts, signed_decimal}
 
 -- below 0 the sign comes first

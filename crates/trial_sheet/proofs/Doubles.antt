@@ -1,9 +1,8 @@
 -- A double keeps each effect of a sheet that is lent.
 -- Assumes nothing.
 use Rattle.std.proofs.Common.{ℕ, arith, pos, get_or, w64, to_z, of_z}
-use lib.Dec.{T}
-use lib.Ieee.{binary64}
-use Rattle.std.specs.Float.Ieee.{in_float}
+use Rattle.std.specs.Float.Ieee.{in_float, binary64}
+use Rattle.std.proofs.Math.Dec.{T}
 use Rattle.newtons.proofs.Values.{in_float_lem}
 use Rattle.report.proofs.Live.{effect_kept}
 use Rattle.sheet.specs.declared.lent.SheetRef.{SheetRef}

@@ -1,6 +1,6 @@
 -- `sheet::read_in` meets its contract: reading on from here, with the sheet so far, gives what reading the whole text gives. Assumes nothing.
 use Rattle.std.proofs.Common.{◌≡◌, sym, ◌∙◌, ap, ◌≤◌, ◌<◌, arith, length, lt-ltb}
-use mathlib.Core.Path.{subst⁻¹}
+use Rattle.std.proofs.Math.Path.{subst⁻¹}
 use Rattle.refusal.specs.Refusal.{number_of}
 use Rattle.refusal.specs.Said.{number_told}
 use Rattle.refusal.proofs.Said.{number_positive, not_zero}

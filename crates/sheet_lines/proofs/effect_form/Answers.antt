@@ -1,9 +1,9 @@
 -- `sheet_lines::effect_form` meets its contract: the key, a minus sign or none, and the number. Assumes nothing.
 use Rattle.std.proofs.Common.{◌≡◌, sym, ◌∙◌, ap, false, ℕ, ◌<◌, arith, ℤ, pos, neg_ℤ, ◌-ℤ◌, w64, SFits, to_z, of_z, eq-eqb, ne_eqb}
-use mathlib.Core.Path.{subst⁻¹}
-use lib.IntN.{+ℤ_idl}
-use mir.ValLaws.{to_z_pos}
 use Rattle.std.specs.Prelude.{Some}
+use Rattle.std.proofs.Math.IntN.{+ℤ_idl}
+use Rattle.std.proofs.Math.Path.{subst⁻¹}
+use Rattle.std.proofs.lemmas.Int.{to_z_pos}
 use Rattle.newtons.specs.Effect.{signed}
 use Rattle.newtons.proofs.Word.{size_neg, small_fits, kept}
 use Rattle.sheet_lines.specs.declared.Form.TheVariants.{Effect}

@@ -1,6 +1,6 @@
 -- `sheet_lines::read_fields` meets its contract: what is read so far and what follows is what the whole line gives. Assumes nothing.
 use Rattle.std.proofs.Common.{◌≡◌, sym, ◌∙◌, ap, List, [], ◌∷◌, map, ℕ, ◌+◌, ◌-◌, ◌≤◌, ◌<◌, arith, add-one, length, take, drop, get_or, drop_of_length-le, length-drop, length-set, take-suc-set, take_all, drop-cons, eqb-true, Bor}
-use borrow.Author.Tests.{eqb-false}
+use Rattle.std.proofs.lemmas.Bool.{eqb-false}
 use Rattle.sheet_lines.specs.Form.{fields_from}
 use Rattle.sheet_lines.proofs.AtPlace.{small_is}
 use Rattle.sheet_lines.proofs.Moved.{fields_more, fields_none, fields_end, fields_left}

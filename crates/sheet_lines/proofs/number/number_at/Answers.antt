@@ -1,6 +1,6 @@
 -- `sheet_lines::number::number_at` meets its contract: reading on from here gives what reading from the start gives. Assumes nothing.
 use Rattle.std.proofs.Common.{refl, sym, ◌∙◌, true, false, ◌<◌, ◌^◌, arith, lit<, length}
-use mathlib.Core.Path.{subst⁻¹}
+use Rattle.std.proofs.Math.Path.{subst⁻¹}
 use Rattle.sheet_lines.specs.Number.{number_at}
 use Rattle.sheet_lines.specs.inner.InLine.{Small}
 use Rattle.sheet_lines.proofs.AtPlace.{number_end, number_other, number_digit, grow_only, grown, below, ended_small}

@@ -1,8 +1,8 @@
 -- `text::OutputSink::text` meets its contract: what is copied into the rest of the buffer stands in the buffer from the index on. Assumes nothing.
 use Rattle.std.proofs.Common.{◌≡◌, sym, ◌∙◌, ap, List, ◌++◌, append_assoc, ℕ, ◌+◌, ◌-◌, ◌≤◌, arith, length, take, drop, drop-drop, le-leb}
-use lib.Seq.{sets, sets-eq}
+use Rattle.std.proofs.lemmas.Bool.{lt-leb}
+use Rattle.std.proofs.lemmas.List.Edits.{sets, sets-eq}
 use Rattle.text.specs.Put.{put_text, put_all}
-use borrow.Author.Tests.{lt-leb}
 use Rattle.text.proofs.OutputSink.text.Goals as goal
 
 -- the rest of a buffer from an index on, with a text copied to its start, put back

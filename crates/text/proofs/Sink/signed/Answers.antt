@@ -1,7 +1,7 @@
 -- `text::Sink::signed` meets its contract: the sign where there is one, and the digits of the size after it. Assumes nothing.
 use Rattle.std.proofs.Common.{◌≡◌, sym, ◌∙◌, ap, ℤ, pos, nat_abs, w64, to_z, of_z}
-use lib.Signed.{lt_z}
-use mir.ValLaws.{to_z-of_z}
+use Rattle.std.proofs.lemmas.Int.{to_z-of_z}
+use Rattle.std.specs.Int.Signed.{lt_z}
 use Rattle.text.proofs.Puts.{put_then}
 use Rattle.text.proofs.Sign.{signed_below, signed_from_zero}
 use Rattle.text.proofs.Sink.signed.Goals as goal

@@ -1,6 +1,5 @@
 -- `sheet::steps::Draft::take_effect` meets its contract. Assumes nothing.
-use Rattle.std.proofs.Common.{◌≡◌, ◌∙◌, sym, ap, true, false, w64}
-use mir.Facts.{to_z-of_z}
+use Rattle.std.proofs.Common.{◌≡◌, ◌∙◌, sym, ap, true, false, w64, to_z-of_z}
 use Rattle.member.proofs.Tests.{passed, failed}
 use Rattle.refusal.specs.Refusal.{number_of}
 use Rattle.refusal.specs.Said.{number_told}

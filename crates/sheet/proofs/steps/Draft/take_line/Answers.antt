@@ -1,6 +1,5 @@
 -- `sheet::steps::Draft::take_line` meets its contract: what the line says is taken as it says. Assumes nothing.
-use Rattle.std.proofs.Common.{◌≡◌, sym, ◌∙◌, ap, ℤ, w64, rules}
-use mir.Facts.{to_z-of_z}
+use Rattle.std.proofs.Common.{◌≡◌, sym, ◌∙◌, ap, ℤ, w64, rules, to_z-of_z}
 use Rattle.std.proofs.lemmas.Result.{err_from_is_err_and}
 use Rattle.refusal.specs.Said.{gives, said, number_told}
 use Rattle.refusal.proofs.Said.{number_positive, not_zero}
