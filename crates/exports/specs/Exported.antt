@@ -1,7 +1,9 @@
 -- What the structs of numbers say that are handed to C and Rust, in the terms of the definitions of the crates below.
 -- Assumes nothing.
-use Rattle.std.specs.Prelude.{false, List, [], ◌∷◌, replicate, ℕ, ℤ, pos, Float}
+use Rattle.std.specs.Prelude.{false, List, [], ◌∷◌, replicate, ℕ, ℤ, pos, Option, unwrap_or, Result, Ok, Err, Float}
 use Rattle.std.specs.Float.{fin}
+use Rattle.refusal.specs.declared.Refused.{Refused}
+use Rattle.refusal.specs.Refusal.{number_of}
 use Rattle.refusal.specs.Said.{Said, gives, refused, Told}
 use Rattle.figure.specs.declared.Working.{Working}
 use Rattle.effects.specs.declared.LoadEffect.{LoadEffect}
@@ -16,7 +18,7 @@ use Rattle.exports.specs.declared.combinations.BungeroCombined.{BungeroCombined}
 use Rattle.exports.specs.declared.columns.BungeroFigure.{BungeroFigure}
 use Rattle.exports.specs.declared.listed.BungeroListed.{BungeroListed}
 use Rattle.sheet.specs.Sheet.{Reading}
-use Rattle.sheet_writer.specs.Saving.{Written}
+use Rattle.sheet_writer.specs.Saving.{Placed, no_effect, Written}
 use Rattle.report.specs.Report.{Reported}
 use Rattle.exports.specs.declared.reductions.BungeroReduced.{BungeroReduced}
 use Rattle.exports.specs.declared.reports.BungeroReported.{BungeroReported}
@@ -86,6 +88,12 @@ shown_reading r = record { number = r.number; line = r.line; start = r.start; en
 -- 01, The sheet: the number, K and how many bytes are put, as the report gives them
 unfoldable pub shown_report : Reported → BungeroReported
 shown_report r = record { number = r.number; line = r.line; length = r.length }
+
+-- 02, CR 2: the numbers that an answer of writing says: how many bytes are put, or the number of the refusal with the place and
+-- the double of the effect that is refused
+unfoldable pub written_told : Result ℕ (Refused (Option Placed)) → Written
+written_told (Ok n) = record { number = 0; place = 0; double = no_effect.double; length = n }
+written_told (Err r) = let e = unwrap_or r.back no_effect in record { number = number_of r.refusal; place = e.load; double = e.double; length = 0 }
 
 -- 02, CR 2: the number, which effect is refused, its double and how many bytes are put, as writing gives them
 unfoldable pub shown_written : Written → BungeroWritten

@@ -139,7 +139,8 @@ pub extern "C" fn bungero_enter(
 }
 
 // Pastes a list of lines, four numbers a line, on such a column: enters them in order, up to and with the first
-// refused one.
+// refused one. No `From` of what pasting gives: how many lines are then held is the caller's count and what was kept, and
+// the caller's count that has not.
 #[tactic(auto, unfolding(crate::specs::Changed::pasted_outcome, column::specs::Pasted::paste_outcome, column::specs::Pasted::number_or_0), using(column::proofs::InPlace::reached_few))]
 #[unsafe(no_mangle)]
 pub extern "C" fn bungero_paste(

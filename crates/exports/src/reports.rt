@@ -2,8 +2,11 @@
 ghost use Rattle.std.specs.Prelude.{◌≡◌};
 ghost use Rattle.io.specs.Counts.{IsPrefixLen};
 ghost use Rattle.text.specs.Put.{fronted};
-ghost use Rattle.report.specs.Report.{put_of, reported_of};
+ghost use Rattle.report.specs.Report.{put_of, reported_of, reported_told};
 ghost use Rattle.exports.specs.Exported.{shown_report};
+
+use refusal::Refused;
+use report::TakenDown;
 
 // What reporting gives: the number of the refusal, 0 where the sheet is read; the line K; and how many
 // bytes were put, 0 where the sheet is refused.
@@ -15,6 +18,26 @@ pub struct BungeroReported {
     pub length: usize,
 }
 
+impl From<Result<TakenDown, Refused<u64>>> for BungeroReported {
+    ghost from_gives = { λ answer reported. reported ≡ shown_report (reported_told answer) };
+
+    #[tactic(auto, unfolding(crate::specs::Exported::shown_report, report::specs::Report::reported_told))]
+    fn from(answer: Result<TakenDown, Refused<u64>>) -> BungeroReported {
+        match answer {
+            Ok(taken) => BungeroReported {
+                number: 0,
+                line: taken.line,
+                length: taken.length,
+            },
+            Err(refused) => BungeroReported {
+                number: refused.refusal.number(),
+                line: refused.back,
+                length: 0,
+            },
+        }
+    }
+}
+
 // Puts the take-down of a text at the start of a buffer; nothing where the sheet is refused.
 #[unsafe(no_mangle)]
 pub extern "C" fn bungero_report(text: &[u8], out: &mut [u8; report::ROOM]) -> BungeroReported
@@ -22,16 +45,5 @@ pub extern "C" fn bungero_report(text: &[u8], out: &mut [u8; report::ROOM]) -> B
     ensures put { out.new ≡ fronted (put_of text.now) out.old }
     ensures prefix_len { IsPrefixLen result.length out.new }
 {
-    match report::report(text, out) {
-        Ok(taken) => BungeroReported {
-            number: 0,
-            line: taken.line,
-            length: taken.length,
-        },
-        Err(refused) => BungeroReported {
-            number: refused.refusal.number(),
-            line: refused.back,
-            length: 0,
-        },
-    }
+    report::report(text, out).into()
 }

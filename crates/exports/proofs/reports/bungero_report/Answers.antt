@@ -1,13 +1,6 @@
--- `exports::reports::bungero_report` meets its contract: what the report gives, in numbers alone. Assumes nothing.
-use Rattle.std.proofs.Common.{ap}
-use Rattle.report.specs.Report.{reported_told}
-use Rattle.exports.specs.Exported.{shown_report}
+-- `exports::reports::bungero_report` meets its contract: its length is that of the bytes that are put. Assumes nothing.
+use Rattle.exports.proofs.Answered.{reported_counts}
 use Rattle.exports.proofs.reports.bungero_report.Goals as goal
 
-pub returns-in-Ok-clause-reported : goal.returns-in-Ok-clause-reported
-unfolding shown_report reported_told
-returns-in-Ok-clause-reported c = ap shown_report c.in-Ok.ensures.reported
-
-pub returns-in-Err-clause-reported : goal.returns-in-Err-clause-reported
-unfolding shown_report reported_told
-returns-in-Err-clause-reported c = rw c.number.ensures (ap shown_report c.in-Err.ensures.reported)
+pub returns-clause-prefix_len : goal.returns-clause-prefix_len
+returns-clause-prefix_len c = reported_counts _ _ _ c.into.ensures c.report.ensures.prefix_len
