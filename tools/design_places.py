@@ -478,8 +478,19 @@ NO_PLACE = {
         "reduction::rounding::raised": "the last number is one too",
         "trial::columns::new": "says that it cannot be",
         "newtons::whole_of": "names the case",
+        "figure::line::HeldLine": "its number is the line",
+        "sheet_lines::effect_key": "the place is an index, of an array and of a key",
     },
     "2": {
+        "exports::changes::from": "a From for each answer",
+        "exports::checks::from": "a From for each struct",
+        "exports::columns::from": "a From for each answer",
+        "exports::reports::from": "a From for each answer",
+        "exports::sheets::from": "a From for each answer",
+        "figure::rates::figure": "of a line, and of lines",
+        "sheet::lent::SheetRef": "a sheet, and one that is lent",
+        "text::text": "a trait's method, and what an output does",
+        "trial::questions::number_of": "two calls of the library each, one of which takes no sign",
         "column::enter_in": "what is alike is that they call two functions",
         "reduction::other_load": "one calls the other",
         "reduction::rounding::raised": "one looks upwards, one downwards",
@@ -532,7 +543,16 @@ NO_PLACE = {
         "effects::of": "a part of a value, by its name",
         "effects::place: conversion to u64 by a cast": "the discriminant",
         "refusal::number: conversion to u64 by a cast": "the discriminant",
-        "exports::checks::from": "a From",
+        **dict.fromkeys(
+            """exports::changes::from exports::checks::from exports::columns::from exports::combinations::from
+            exports::listed::from exports::reductions::from exports::reports::from exports::sheets::from""".split(),
+            "a From",
+        ),
+        "figure::descent::top": MAKES,
+        "figure::descent::next": MAKES,
+        "figure::lines::of": MAKES,
+        "figure::lines::first": MAKES,
+        "report::put_printed": "puts one of two texts",
         "figure::rates::searched_load": "it is in point 1",
         "newtons::whole_of": "it checks",
         "member::is_formula": RULE,
@@ -544,12 +564,14 @@ NO_PLACE = {
     },
     "5": {
         "IfOk": "says other things of other results",
+        "line: &[u8], place: usize": "a line, and the effect that is due; each goes alone too",
         "places : List ℕ": "a clause for all places, of things that share none",
         "class: u64, load: u64": "numbers as a caller hands them over; each goes alone too",
         "class: u64, floors: u64": "numbers as a caller hands them over; each goes alone too",
     },
     "6": {
         "combination::search::FACTORS": "rows of a table",
+        "figure::Working": "how many floors there are is what it says",
         "figure::rates::Shares": "how many floors there are is what it says",
         "figure::shares::Shares": "how many floors there are is what it says",
         "reduction::Carried": "how many floors there are is what it says",
@@ -567,7 +589,8 @@ NO_PLACE = {
             trial_combination::print::write_effect trial_combination::print::print_combined
             trial_combination::print::print_governed reduction::class::try_from trial::answer_all trial::print::fmt
             trial::questions::question_of trial_combination::answer_of trial_combination::doubles::digit
-            trial_combination::print::fmt newtons::checked""".split(),
+            trial_combination::print::fmt newtons::checked combination::govern
+            trial_sheet::answer""".split(),
             "a match on what there is, whose cases have values of their own",
         ),
     },

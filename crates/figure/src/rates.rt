@@ -85,7 +85,8 @@ fn formula_rate(carried: Carried) -> Rate
     }
 }
 
-// The shares at so many floors, where the formula lines have this area.
+// The shares at so many floors, where the formula lines have this area. That the member has a code is asked by three, one
+// of which calls the next; a type for it would be made in the first and taken apart in the last.
 #[tactic(auto, unfolding(crate::specs::inner::Rates::twentieths_rate), using(reduction::proofs::Shares::heavy_within))]
 pub fn shares_at(member: Member, floors: u64, area: TributaryArea) -> Shares
     requires { (between 1 12 member.code ≡ true) × (area.0 ≤ 51200000) }

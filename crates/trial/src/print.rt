@@ -31,7 +31,7 @@ pub fn unread<W: Write>(out: &mut W) {
     let _ = writeln!(out, "unread");
 }
 
-// Prints what a call gave under its name, or the number of its refusal.
+// Prints what a call gave under its name, or the number of its refusal. A Display would need a type for the two.
 pub fn print_answer<W: Write>(out: &mut W, name: &str, answer: Result<u64, Refusal>) {
     match answer {
         Ok(n) => {

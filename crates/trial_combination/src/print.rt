@@ -24,7 +24,7 @@ struct Row(GoverningRow);
 #[derive(Drop)]
 struct Rows(Governing);
 
-// The key of a load on the sheet.
+// The key of a load on the sheet. A load is another crate's type, so that it can have no Display here.
 fn key(load: Load) -> &'static str {
     match load {
         Load::Dead => "dead",
