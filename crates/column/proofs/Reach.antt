@@ -94,7 +94,9 @@ module _ (c : Column) (l : Line) where
   -- entering a line where one does
   pub entered_refused : (n : ℕ) → 1 ≤ n → entry_number c.member (lines_of c) l ≡ n → entered_of c l ≡ record { number = n; column = c }
   unfolding entered_of
-  entered_refused n h e = rw (e, ne_eqb n 0 (λ q. omega arith))
+  entered_refused n h e =
+      let not_0 : eqb (entry_number c.member (lines_of c) l) 0 ≡ false = ap (λ (k : ℕ). eqb k 0) e ∙ ne_eqb n 0 (λ q. omega arith) in
+      λ i. record { number = e i; column = cond (not_0 i) (column_of c.member (lines_of c ++ (l ∷ []))) c }
 
 -- entering a line on the column of some lines gives its number, and the column of the lines that are then accepted
 pub entered_column : (m : Member) (ls : List Line) (l : Line) → Holdable ls
