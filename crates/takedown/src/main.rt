@@ -12,15 +12,16 @@ use std::io::{IsTerminal, Write};
 // One byte more than a sheet may have, which tells a longer text from it.
 const ROOM: usize = sheet::LONGEST + 1;
 
-// Puts all that is printed for the text at the start of a buffer, and gives how many bytes that is. The
-// buffer has room for more than the longest sheet, so that no longer text is cut to one: that is asked of
-// the whole buffer, so it comes with the count of its bytes that were read.
-fn put_printed(buffer: &[u8], count: usize, out: &mut [u8; report::ROOM]) -> usize
+// Puts all that is printed for the text at the start of a buffer, and gives it. The buffer has room for
+// more than the longest sheet, so that no longer text is cut to one: that is asked of the whole buffer, so
+// it comes with the count of its bytes that were read.
+#[tactic(auto, using(text::proofs::Puts::fronted_take))]
+fn put_printed<'a>(buffer: &[u8], count: usize, out: &'a mut [u8; report::ROOM]) -> &'a [u8]
     requires { IsPrefixLen count buffer.now × (longest < length buffer.now) }
-    ensures printed { take result out.new ≡ report_of (take count buffer.now) }
-    ensures prefix_len { IsPrefixLen result out.new }
+    ensures printed { result.now ≡ report_of (take count buffer.now) }
 {
-    report::put_printed(&buffer[..count], out)
+    let size = report::put_printed(&buffer[..count], out);
+    &out[..size]
 }
 
 // Whether words stand behind the program's name on its command line. std's `args` would take memory from
@@ -58,8 +59,8 @@ fn main(rt: HostRuntime) {
         return;
     }
     let mut out = [0u8; report::ROOM];
-    let size = put_printed(&text, input.count, &mut out);
-    if let Err(error) = rt.stdout().write_all(&out[..size]) {
+    let printed = put_printed(&text, input.count, &mut out);
+    if let Err(error) = rt.stdout().write_all(printed) {
         let _ = eprintln!(rt; "takedown: writing standard output: {error}");
     }
 }

@@ -3,8 +3,6 @@
 // of its bytes. Its stored output is the second reckoning's.
 #![tactic(auto)]
 
-ghost use Rattle.io.specs.Counts.{IsPrefixLen};
-
 use sheet::SheetRef;
 use sheet_writer::SheetDoubles;
 use std::io;
@@ -28,26 +26,20 @@ fn doubles_of(sheet: SheetRef<'_>) -> SheetDoubles {
     }
 }
 
-// Writes a sheet that was read, and gives how many bytes that is; one that was read is never refused, and 0 would show it.
-fn put_back(sheet: SheetRef<'_>, back: &mut [u8; sheet_writer::ROOM]) -> usize
-    ensures { IsPrefixLen result back.new }
-{
+// Writes a sheet that was read, and gives its text; one that was read is never refused, and no byte would show it.
+fn put_back<'a>(sheet: SheetRef<'_>, back: &'a mut [u8; sheet_writer::ROOM]) -> &'a [u8] {
     match sheet_writer::write(sheet.column, doubles_of(sheet), back) {
-        Ok(length) => length,
-        Err(_) => 0,
+        Ok(length) => &back[..length],
+        Err(_) => &[],
     }
 }
 
 // Prints how many bytes a sheet that was read has when it is written back, and whether they are its text.
 fn write_back<W: Write>(out: &mut W, text: &[u8], sheet: SheetRef<'_>) -> io::Result<()> {
     let mut back = [0u8; sheet_writer::ROOM];
-    let length = put_back(sheet, &mut back);
-    let word = if text == &back[..length] {
-        "same"
-    } else {
-        "other"
-    };
-    writeln!(out, "written={length} {word}")
+    let written = put_back(sheet, &mut back);
+    let word = if text == written { "same" } else { "other" };
+    writeln!(out, "written={} {word}", written.len())
 }
 
 // Prints the report of a sheet, then where the part that is refused starts and ends, and the part; and of a
