@@ -61,6 +61,8 @@ pub fn put_refusal(number: u64, line: u64, out: &mut [u8; ROOM]) -> usize
 
 // Puts all that takedown prints for a text at the front of a buffer, its take-down or the line of its
 // refusal; gives how many bytes that is.
+// Lengths stay here and above: tried with the text as a part of the buffer, `&'a [u8]`, and `put` stays open, since the borrow
+// checker proves no clause on what a lent array ends as (an `ensures*`).
 pub fn put_printed(text: &[u8], out: &mut [u8; ROOM]) -> usize
     ensures length { result ≡ length (report_of text.now) }
     ensures put { out.new ≡ fronted (report_of text.now) out.old }
