@@ -27,7 +27,7 @@ pub struct Input {
 // would not say how much was read before the input ended or a read failed.
 pub fn read_from<R: Read>(reader: &mut R, buffer: &mut [u8]) -> Input
     ensures prefix_len { IsPrefixLen result.count buffer.new }
-    ensures ending_value { is_full result.ending ≡ eqb result.count (length buffer.new) }
+    ensures ending { is_full result.ending ≡ eqb result.count (length buffer.new) }
 {
     let mut count = 0;
     while count < buffer.len() {

@@ -86,7 +86,8 @@ fn read_in(draft: &mut Draft, text: &[u8]) -> Result<Stop, Refused<Stop>>
     refused(Refusal::SheetMalformed, line + 1, at..at)
 }
 
-// Reads a sheet line by line, each its form and then its values.
+// Reads a sheet line by line, each its form and then its values. That it keeps the limits is said once, of the answer: a
+// sheet that is lent, and C's answer, take it from here.
 pub fn read(text: &[u8]) -> ReadSheet
     ensures read { reading_told result ≡ read_sheet text.now }
     ensures keeps { result.refusal ≡ None → Keeps result.sheet }

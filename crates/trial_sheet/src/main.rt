@@ -12,7 +12,7 @@ use std::ops::Range;
 // More than the stored sheets take.
 const ROOM: usize = 1048576;
 
-// The six effects of a sheet as they are handed to the writer.
+// The six effects of a sheet as they are handed to the writer. No From: it would stand in sheet_writer for this trial alone.
 #[tactic(auto, using(crate::proofs::Doubles::exact))]
 fn doubles_of(sheet: SheetRef<'_>) -> SheetDoubles {
     let [dead, roof, snow, rain, wind, quake] = sheet.effects;
