@@ -473,6 +473,7 @@ NO_PLACE = {
         "sheet_lines::Form: enum of Member(u64), Floor(Line), Effect{ place: usize, newtons: i64 }": ITS_CASES,
         "exports::changes::bungero_enter": "takes any number and answers it",
         "exports::sheets::bungero_write": "what it gives is counted",
+        "exports::sheets::from": "what C is given where no effect is refused",
         "error_bound::note": "the first one stays the first",
         "figure::sums::formula_area": "0 is the area",
         "reduction::rounding::raised": "the last number is one too",
