@@ -28,7 +28,8 @@ pub const LOWEST_FLOOR: u64 = 64;
 // The places of a column's lines, each line as one number.
 pub type Places = [u64; LINES];
 
-// A line as a caller hands it over, each number as wide as it comes.
+// A line as a caller hands it over, each number as wide as it comes: C may hand over any, so that a class is one only once
+// it is checked.
 #[repr(C)]
 #[derive(Clone, Copy)]
 pub struct Line {
@@ -45,7 +46,8 @@ pub struct Member {
     pub code: u8,
 }
 
-// A member and its accepted lines, in the order in which they were entered.
+// A member and its accepted lines, in the order in which they were entered. A count beside the places, since there is no heap
+// and C keeps a column in its own memory; and no ghost field says that it is reached, since C hands it over as it is.
 #[repr(C)]
 #[derive(Clone, Copy)]
 pub struct Column {

@@ -20,7 +20,7 @@ pub struct BungeroCombined {
     pub governing: Governing,
 }
 
-// The refused effect is told as BungeroChecked tells it: C's structs are flat, and one for both would be taken apart again.
+// The refused effect is told as BungeroChecked tells it: C's header names its three numbers one by one, in each.
 impl From<Result<Governing, Refused<LoadEffect<Load>>>> for BungeroCombined {
     ghost from_gives = { λ answer combined. combined ≡ shown_combined (told answer) };
 

@@ -1,5 +1,6 @@
 // What programs in C and Rust call, with answers as structs of numbers. C has no Option and no Result, so the number of a
-// refusal stands first in each, 0 where nothing is refused, and what is not given is 0; a struct is of its own where C's is.
+// refusal stands first in each, 0 where nothing is refused, and what is not given is 0. C lends a column in its parts, and
+// is told how much of a buffer was filled, since its structs hold no slice.
 #![tactic(auto)]
 
 pub mod changes;

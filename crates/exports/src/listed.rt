@@ -21,7 +21,7 @@ pub struct BungeroListed {
     pub figure: u64,
 }
 
-// The working is told as BungeroFigure tells it: C's structs are flat, and one for both would be taken apart again.
+// The working is told as BungeroFigure tells it: C's header names its three numbers one by one, in each.
 impl From<Result<Working, Refused<u64>>> for BungeroListed {
     ghost from_gives = { λ answer listed. listed ≡ shown_listed (told answer) };
 

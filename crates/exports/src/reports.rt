@@ -9,7 +9,7 @@ use refusal::Refused;
 use report::TakenDown;
 
 // What reporting gives: the number of the refusal, 0 where the sheet is read; the line K; and how many
-// bytes were put, 0 where the sheet is refused.
+// bytes were put, 0 where the sheet is refused. TakenDown has the last two; C's has a number first.
 #[repr(C)]
 #[derive(Clone, Copy)]
 pub struct BungeroReported {

@@ -52,7 +52,8 @@ pub extern "C" fn bungero_read(text: &[u8]) -> BungeroReading
 }
 
 // What writing gives: the number of the refusal, 0 where the sheet is written; the place of the refused
-// effect, 1 for dead to 6 for quake, and its double as it came; and how many bytes were put. The rest is 0.
+// effect, 1 for dead to 6 for quake, and its double as it came; and how many bytes were put. The rest is 0. The header names
+// these one by one, as those of BungeroChecked.
 #[repr(C)]
 #[derive(Clone, Copy)]
 pub struct BungeroWritten {

@@ -30,8 +30,8 @@ pub const FLOORS: usize = column::LOWEST_FLOOR as usize;
 pub type Table = [Option<Working>; FLOORS];
 
 // What holds at a floor: the number n of distinct floors carried, the influence area X, and the
-// figure in hundredths of a newton. With a Carried for n and X, the two that make one would be shorter, and
-// each of the fourteen lines that read them longer.
+// figure in hundredths of a newton. With a Carried for n and X, the two functions that make one would be shorter, and
+// each line that reads them longer.
 #[derive(Clone, Copy)]
 pub struct Working {
     pub floors: u64,
@@ -55,7 +55,7 @@ pub fn ask(column: Column, floor: u64) -> Result<Working, Refusal>
 }
 
 // n, X and the figure at every floor from 1 to 64; none at a floor that no accepted line has. Gives the figure
-// at the lowest floor, 0 without lines.
+// at the lowest floor, 0 without lines, as the paper works live out.
 pub fn work_out(column: ColumnRef<'_>, table: &mut Table) -> u64
     ensures workings { table.new ≡ workings_of (column_seen column.entry) lowest_floor }
     ensures lowest { result ≡ lowest_figure column.entry.member (lines_of (column_seen column.entry)) }

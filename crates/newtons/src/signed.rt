@@ -1,4 +1,4 @@
-// The magnitude of a signed number, for the limit of an effect and for whoever writes one out.
+// The magnitude of a signed number, for the limit of an effect.
 ghost use Rattle.std.specs.Prelude.{◌≡◌};
 ghost use Rattle.newtons.specs.Effect.{magnitude_of};
 

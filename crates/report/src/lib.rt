@@ -15,7 +15,7 @@ mod takedown;
 // The bytes of the buffer that a report is put into; no report has more than 3,960.
 pub const ROOM: usize = 4096;
 
-// The take-down of a sheet that is read: its last line K, and how many bytes were put.
+// The take-down of a sheet that is read: its last line K, and how many bytes were put, which C is told.
 #[derive(Clone, Copy)]
 pub struct TakenDown {
     pub line: u64,
@@ -47,7 +47,8 @@ pub fn report(text: &[u8], out: &mut [u8; ROOM]) -> Result<TakenDown, Refused<u6
 }
 
 // Puts the line that takedown prints for a refused sheet, of which only the number and the line K are
-// known here, at the front of a buffer; gives how many bytes that is. It takes any number, as C may hand one over.
+// known here, at the front of a buffer; gives how many bytes that is. It takes any number, and
+// prints it: a Refusal would ask more of its caller.
 #[tactic(auto, using(text::proofs::Puts::put_same))]
 pub fn put_refusal(number: u64, line: u64, out: &mut [u8; ROOM]) -> usize
     ensures length { result ≡ length (refusal_text number line) }

@@ -8,8 +8,8 @@ ghost use Rattle.text.specs.Put.{field_parts, put_all, put_text};
 
 pub mod scan;
 
-// A lent buffer, and the index in it from which on texts are put. Each method says that the buffer is
-// the same still, since without that a caller knows nothing of what it lent.
+// A lent buffer, and the index in it from which on texts are put. No rest of the buffer in place of the index: how much was
+// put is what its users give their callers.
 #[derive(Drop)]
 pub struct Output<'a> {
     pub buffer: &'a mut [u8],

@@ -31,7 +31,8 @@ pub fn unread<W: Write>(out: &mut W) {
     let _ = writeln!(out, "unread");
 }
 
-// Prints what a call gave under its name, or the number of its refusal. A Display would need a type for the two.
+// Prints what a call gave under its name, or the number of its refusal. A type for the two,
+// with a Display, would be longer than these arms.
 pub fn print_answer<W: Write>(out: &mut W, name: &str, answer: Result<u64, Refusal>) {
     match answer {
         Ok(n) => {
@@ -44,7 +45,7 @@ pub fn print_answer<W: Write>(out: &mut W, name: &str, answer: Result<u64, Refus
     }
 }
 
-// Prints the number of opening or entering, 0 where it is not refused.
+// Prints the number of opening or entering, 0 where it is not refused: the stored output has it so.
 pub fn print_number<W: Write>(out: &mut W, outcome: Result<(), Refusal>) {
     let number = outcome.err().map_or(0, |refusal| refusal.number());
     let _ = writeln!(out, "number={number}");

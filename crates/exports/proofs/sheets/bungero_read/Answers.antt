@@ -5,4 +5,4 @@ use Rattle.exports.proofs.Answered.{reading_keeps}
 use Rattle.exports.proofs.sheets.bungero_read.Goals as goal
 
 pub returns-clause-keeps : goal.returns-clause-keeps
-returns-clause-keeps c = reading_keeps c.args.text.now _ (c.into.ensures ∙ ap shown_reading c.read.ensures.read)
+returns-clause-keeps c = reading_keeps _ _ (c.into.ensures ∙ ap shown_reading c.read.ensures.read)
