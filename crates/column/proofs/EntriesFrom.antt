@@ -31,6 +31,15 @@ entries_few (a ∷ (b ∷ [])) h = refl
 entries_few (a ∷ (b ∷ (c ∷ []))) h = refl
 entries_few (a ∷ (b ∷ (c ∷ (d ∷ ns)))) h = absurd (omega arith)
 
+-- and so from an index on
+pub entries_end : (ns : List ℕ) (i : ℕ) → length ns < i + 4 → entries_of (drop i ns) ≡ []
+entries_end ns i h = entries_few (drop i ns) (rw (length-drop i ns) (omega arith))
+
+-- the part of four numbers from an index on is one entry
+pub entries_one : (ns : List ℕ) (i n : ℕ) → n ≡ 4 → i + 4 ≤ length ns → entries_of (take n (drop i ns)) ≡ entry_at ns i ∷ []
+unfolding entries_of
+entries_one ns i n e h = rw (e, four ns i h)
+
 -- the first of some numbers and those after them, as a pattern takes a list apart
 pub entries_first : (ns : List ℕ) → 4 ≤ length ns → entries_of ns ≡ entry_at ns 0 ∷ entries_of (take (length ns - 4) (drop 4 ns))
 entries_first ns h = rw (take_all (length ns - 4) (drop 4 ns) (omega (arith, length-drop 4 ns))) (entries_next ns 0 h)

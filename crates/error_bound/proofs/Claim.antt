@@ -1,6 +1,6 @@
 -- Demand 3, for every member, every list of entries and every floor.
 -- Assumes nothing.
-use Rattle.std.proofs.Common.{◌≡◌, refl, ◌∙◌, ap, true, List, ℕ}
+use Rattle.std.proofs.Common.{◌≡◌, refl, ◌∙◌, ap, true, List, ℕ, ◌≤◌, arith}
 use Rattle.std.proofs.Math.Path.{subst⁻¹}
 use Rattle.refusal.specs.Said.{Said, refused, nothing}
 use Rattle.refusal.specs.declared.Refusal.{Refusal}
@@ -55,6 +55,15 @@ demand3 m entries f opened has =
 
 -- opening, entering the whole list and asking: where the member is opened, and where it is refused
 module _ (m : Member) (entries : List Line) (f : ℕ) where
+  pub asked_open : (opened_of m).number ≡ 0 → asked (after (opened_of m).column entries) f ≡ asked_after m entries f
+  unfolding asked_after
+  asked_open e = rw e
+
+  pub asked_number : (n : ℕ) → 1 ≤ n → n ≡ (opened_of m).number → refused n nothing ≡ asked_after m entries f
+  unfolding asked_after
+  asked_number n h e = rw (← e, not_zero h)
+
+  -- and so where it is known what opening gave
   pub asked_opened : {c d : Column} → record { number = 0; column = c } ≡ opened_of m → d ≡ after c entries → asked d f ≡ asked_after m entries f
   unfolding asked_after
   asked_opened e is = rw (← e, is) refl
@@ -67,3 +76,8 @@ module _ (m : Member) (entries : List Line) (f : ℕ) where
   pub claim_opened : {t : Said Working} → t ≡ asked_after m entries f → Claim m (accepted m entries) f t
   unfolding Claim asked_after
   claim_opened e opened has = subst⁻¹ (Answered m (accepted m entries) f) (e ∙ rw opened refl) (demand3 m entries f opened has)
+
+-- where opening is refused nothing is claimed, of whatever lines
+pub claim_refused : (m : Member) (ls : List Line) (f n : ℕ) (t : Said Working) → 1 ≤ n → n ≡ (opened_of m).number → Claim m ls f t
+unfolding Claim
+claim_refused m ls f n t h e opened has = absurd (omega (arith, e ∙ opened))

@@ -69,6 +69,13 @@ pub noted_all_lem : (ns : List ℕ) → noted_all no_refusals 1 ns ≡ refusals_
 unfolding refusals_of
 noted_all_lem ns = found 1 ns
 
+-- some are counted just where a first one is told, so the count says as well as the number whether there was one
+pub count_tells : (ns : List ℕ) → (refused_count ns ≡ 0 → first_number ns ≡ 0) × (1 ≤ refused_count ns → 1 ≤ first_number ns)
+unfolding refused_count first_number
+count_tells [] = (λ e. refl, λ h. h)
+count_tells (n ∷ ns) =
+    by_number n (λ e. rw (e, zero-add (refused_count ns)) (count_tells ns)) (λ r. rw (not_zero r) (λ e. absurd (omega (arith, e)), λ h. r))
+
 module _ (m : Member) where
   numbers_from_lem : (ls es : List Line) → Holdable ls → numbers_on (column_of m ls) es ≡ numbers_from m ls es
   unfolding numbers_on numbers_from
@@ -78,14 +85,23 @@ module _ (m : Member) where
       ∙ ap (λ (ns : List ℕ). entry_number m ls e ∷ ns) (numbers_from_lem (joined m ls e) es (joined_holdable m ls e h))
 
   -- what is told of entering on an opened column is what the definition tells
+  pub refusals_open : (es : List Line) → (opened_of m).number ≡ 0 → refusals_of (numbers_on (opened_of m).column es) ≡ refusals_after m es
+  unfolding refusals_after
+  refusals_open es h =
+      ap (λ (c : Column). refusals_of (numbers_on c es)) (opened_column m h)
+      ∙ (ap refusals_of (numbers_from_lem [] es holdable_none) ∙ rw h)
+
+  -- and nothing where opening is refused
+  pub refusals_number : (es : List Line) (n : ℕ) → 1 ≤ n → n ≡ (opened_of m).number → no_refusals ≡ refusals_after m es
+  unfolding refusals_after refusals_of refused_count first_number first_place
+  refusals_number es n h e = rw (← e, not_zero h)
+
+  -- both where it is known what opening gave
   pub refusals_opened : {c : Column} (es : List Line) → record { number = 0; column = c } ≡ opened_of m → refusals_of (numbers_on c es) ≡ refusals_after m es
   unfolding refusals_after
   refusals_opened es e =
-      let opened = sym (ap (λ (o : Outcome). o.number) e) in
-      ap (λ (c : Column). refusals_of (numbers_on c es)) (ap (λ (o : Outcome). o.column) e ∙ opened_column m opened)
-      ∙ (ap refusals_of (numbers_from_lem [] es holdable_none) ∙ rw opened)
+      ap (λ (o : Outcome). refusals_of (numbers_on o.column es)) e ∙ refusals_open es (sym (ap (λ (o : Outcome). o.number) e))
 
-  -- and nothing where opening is refused
   pub refusals_refused : {c : Column} (es : List Line) (r : Refusal) → record { number = number_of r; column = c } ≡ opened_of m → no_refusals ≡ refusals_after m es
   unfolding refusals_after refusals_of refused_count first_number first_place
   refusals_refused es r e = rw (← e, not_zero (number_positive r))

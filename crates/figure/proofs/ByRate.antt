@@ -76,30 +76,34 @@ share_small (Root x) fit =
     let most = scale_most x (fit_root {x = x} fit refl).0 in
     record { times = omega (arith, most); plus = omega arith; doubt = omega arith }
 
-formula_small : (s : Shares) → Small s.formula
+pub formula_small : (n : ℕ) (x : InfluenceArea) → Small (rate_of n x)
 unfolding rate_of
-formula_small s =
-    let share = formula_share s.carried.floors s.carried.influence in
-    subst⁻¹ Small s.formula_is (share_small share (formula_fits s.carried.floors s.carried.influence))
+formula_small n x = share_small (formula_share n x) (formula_fits n x)
+
+shares_small : (s : Shares) → Small s.formula
+shares_small s = subst⁻¹ Small s.formula_is (formula_small s.carried.floors s.carried.influence)
 
 pub times_most : (s : Shares) (load : ℕ) → load ≤ 5000 → load * s.formula.times ≤ 335544400000
-times_most s load h = mul-le-mul h (formula_small s).times
+times_most s load h = mul-le-mul h (shares_small s).times
 
 pub doubts_most : (s : Shares) (load : ℕ) → load ≤ 5000 → load * s.formula.doubt ≤ 160000
-doubts_most s load h = mul-le-mul h (formula_small s).doubt
+doubts_most s load h = mul-le-mul h (shares_small s).doubt
 
 pub low_most : (s : Shares) (load : ℕ) → load ≤ 5000 → load * s.formula.times + s.formula.plus ≤ 335611508832
-low_most s load h = omega (arith, times_most s load h, (formula_small s).plus)
+low_most s load h = omega (arith, times_most s load h, (shares_small s).plus)
 
 -- a formula line's load by the formula's rate
-pub formula_by : (s : Shares) (load : ℕ) → load ≤ 5000 → Sure s.formula load → by s.formula load ≡ formula_load s load
+pub rate_by : (n load : ℕ) (x : InfluenceArea) → load ≤ 5000 → let r = rate_of n x in Sure r load → by r load ≡ reduced (share_of load 1 n x) load
 unfolding rate_of is_formula
-formula_by s load small =
-    let n = s.carried.floors in
-    let x = s.carried.influence in
+rate_by n load x small sure =
     let share : share_of load 1 n x ≡ formula_share n x = share_formula load 1 n x (le-leb load 5000 small) in
     let fits = rw share at (share_fits load 1 n x (omega arith)) in
-    subst⁻¹ (λ (r : Rate). Sure r load → by r load ≡ formula_load s load) s.formula_is (λ sure. rw share (share_by (formula_share n x) load fits sure))
+    rw share (share_by (formula_share n x) load fits sure)
+
+-- and so by that of the shares at a floor
+pub formula_by : (s : Shares) (load : ℕ) → load ≤ 5000 → Sure s.formula load → by s.formula load ≡ formula_load s load
+formula_by s load small =
+    subst⁻¹ (λ (r : Rate). Sure r load → by r load ≡ formula_load s load) s.formula_is (rate_by s.carried.floors load s.carried.influence small)
 
 -- the rate is that of the twentieths where the share is clamped, and else the root's by its scale
 pub rate_clamped : (n : ℕ) (x : InfluenceArea) {k : ℕ} → clamped_of n x ≡ Some k → twentieths_rate k ≡ rate_of n x

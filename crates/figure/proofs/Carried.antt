@@ -62,6 +62,12 @@ unfolding has_floor some
 has_front f [] a = has_none f a
 has_front f (l ∷ ls) a = ap (λ (b : Bool). eqb l.floor f || b) (has_front f ls a)
 
+-- the floor of one of the lines
+pub has_in : (ls : List Line) (l : Line) (ks : List Line) → has_floor l.floor (ls ++ (l ∷ ks)) ≡ true
+unfolding has_floor some
+has_in [] l ks = rw (eq-eqb l.floor l.floor refl)
+has_in (k ∷ ls) l ks = rw (has_in ls l ks) (or-true (eqb k.floor l.floor))
+
 -- the floor of a line at a place
 pub has_at : (f : ℕ) (ns : List ℕ) (k d : ℕ) → k < length ns → (unpacked (get_or ns k d)).floor ≡ f → has_floor f (map unpacked ns) ≡ true
 unfolding has_floor some
@@ -93,6 +99,17 @@ pub floors_again : (k : Line) (ls : List Line) (l : Line) → l.floor ≡ last_f
 unfolding floors_of has_floor some last_floor
 floors_again k [] l e = one_floor_lem k.floor k refl (more {x = l} e none)
 floors_again k (j ∷ ls) l e = rw (has_again k.floor j ls l e, floors_again j ls l e)
+
+-- so where the last two are given
+has_twice : (f : ℕ) (ls : List Line) (k l : Line) → l.floor ≡ k.floor → has_floor f (ls ++ (k ∷ (l ∷ []))) ≡ has_floor f (ls ++ (k ∷ []))
+unfolding has_floor some
+has_twice f [] k l e = rw e (or_self_left (eqb k.floor f) false)
+has_twice f (j ∷ ls) k l e = ap (λ (b : Bool). eqb j.floor f || b) (has_twice f ls k l e)
+
+pub floors_twice : (ls : List Line) (k l : Line) → l.floor ≡ k.floor → floors_of (ls ++ (k ∷ (l ∷ []))) ≡ floors_of (ls ++ (k ∷ []))
+unfolding floors_of has_floor some
+floors_twice [] k l e = one_floor_lem k.floor k refl (more {x = l} e none)
+floors_twice (j ∷ ls) k l e = rw (has_twice j.floor ls k l e, floors_twice ls k l e)
 
 -- one floor further down is at most one floor more: a line is carried above it, is at it, or is below it
 one_or_none : (b : Bool) → (◌≡◌ {A = ℕ} (cond b 0 1 + cond b 1 0) 1) × (cond b 1 0 ≤ 1)

@@ -6,14 +6,21 @@ use Rattle.std.specs.Option.{option_eq}
 use Rattle.std.proofs.Math.Path.{fun_ext}
 use Rattle.std.proofs.lemmas.Bool.{false≢true, lt-leb}
 use Rattle.lists.proofs.Tests.{cases}
+use Rattle.reduction.specs.declared.InfluenceArea.{InfluenceArea}
 use Rattle.reduction.specs.declared.share.Share.TheVariants.{Twentieths}
-use Rattle.reduction.specs.Share.{one_floor, other_twentieths, share_of}
+use Rattle.reduction.specs.Share.{one_floor, clamped_of, heavy_twentieths, other_twentieths, share_of}
 use Rattle.reduction.proofs.Twentieths.{share_other, share_clamped}
 use Rattle.column.specs.declared.Line.{Line}
 use Rattle.figure.specs.declared.shares.Shares.{Shares}
 use Rattle.figure.specs.Carried.{is_formula_line}
 use Rattle.figure.specs.Figure.{line_figure}
-use Rattle.figure.specs.inner.Shared.{figure_by}
+use Rattle.figure.specs.inner.Rates.{twentieths_rate, rate_of}
+use Rattle.figure.specs.inner.Shared.{SharesOf, figure_by}
+
+-- what shares are that are those at some n and X
+pub shared_at : (n : ℕ) (x : InfluenceArea) (s : Shares) → SharesOf n x s
+    → (s.clamped ≡ clamped_of n x) × (s.formula ≡ rate_of n x) × (s.other ≡ (twentieths_rate (heavy_twentieths n)).times)
+shared_at n x s e = (rw (← e.0, ← e.1) s.clamped_is, rw (← e.0, ← e.1) s.formula_is, rw (← e.0) s.other_is)
 
 other_below : (class n : ℕ) → 2 ≤ n → other_twentieths class n ≡ other_twentieths class 2
 unfolding other_twentieths one_floor

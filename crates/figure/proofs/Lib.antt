@@ -3,6 +3,7 @@ pub mod AskedExamples
 pub mod Carried
 pub mod Order
 pub mod HeldLines
+pub mod Places
 pub mod Marked
 pub mod ByRate
 pub mod Kept

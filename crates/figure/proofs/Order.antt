@@ -31,10 +31,15 @@ pub ordered_back : (ls : List Line) {ks : List Line} → Ordered (ls ++ ks) → 
 ordered_back [] o = o
 ordered_back (l ∷ ls) o = ordered_back ls (ordered_rest o)
 
--- of lines in order those before a line are not below it
-ordered_before : (l : Line) (ks ls : List Line) → Ordered (ls ++ (l ∷ ks)) → All (DownTo l.floor) ls
-ordered_before l ks [] o = none
-ordered_before l ks (k ∷ ls) o = more (all_first {P = NotAbove k.floor} (all_back ls (ordered_first o))) (ordered_before l ks ls (ordered_rest o))
+-- of lines in order those before a line are not below it, and those after it not above
+module _ (l : Line) (ks : List Line) where
+  pub ordered_before : (ls : List Line) → Ordered (ls ++ (l ∷ ks)) → All (DownTo l.floor) ls
+  ordered_before [] o = none
+  ordered_before (k ∷ ls) o = more (all_first {P = NotAbove k.floor} (all_back ls (ordered_first o))) (ordered_before ls (ordered_rest o))
+
+  pub ordered_after : (ls : List Line) → Ordered (ls ++ (l ∷ ks)) → All (NotAbove l.floor) ks
+  ordered_after [] o = ordered_first o
+  ordered_after (k ∷ ls) o = ordered_after ls (ordered_rest o)
 
 ordered_more : (ls : List Line) (l : Line) → Ordered ls → All (DownTo l.floor) ls → Ordered (ls ++ (l ∷ []))
 ordered_more [] l o b = first none empty

@@ -120,7 +120,7 @@ module _ {m : Member} {ns : List ℕ} {d : Descent} {run : List ℕ} (h : Descen
   both : map unpacked (d.carried.numbers.now ++ run) ≡ map unpacked d.carried.numbers.now ++ map unpacked run
   both = map-append unpacked d.carried.numbers.now run
 
-  lower : d.floor < line.floor
+  pub lower : d.floor < line.floor
   lower = each_of {P = Below d.floor} run (all_front (map unpacked run) (map unpacked r.rest) (rw (r.is, map-append unpacked run r.rest) at h.below)) 0 0 r.some
 
   floors : floors_of (map unpacked (d.carried.numbers.now ++ run)) ≡ d.shares.carried.floors + 1

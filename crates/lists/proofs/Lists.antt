@@ -56,6 +56,12 @@ module _ {A : Type 0} where
   total_most f k h none = omega arith
   total_most f k h (more {x} {xs} q a) = rw (mul-suc k (length xs)) (omega (arith, h x q, total_most f k h a))
 
+  -- a sum over two lists is that of the first and that of the second
+  pub total_append : (f : A → ℕ) (xs ys : List A) → total f (xs ++ ys) ≡ total f xs + total f ys
+  unfolding total
+  total_append f [] ys = rw (zero-add (total f ys))
+  total_append f (x ∷ xs) ys = omega (arith, total_append f xs ys)
+
   -- what holds of each element of two lists holds of each of the first
   pub all_front : {P : A → Type 0} (xs ys : List A) → All P (xs ++ ys) → All P xs
   all_front [] ys h = none

@@ -51,12 +51,12 @@ effect_within x z h = go (value_of x) h
     go not_whole e = let q : ◌≡◌ {A = ℕ} 0 1 = cc in omega arith
 
 -- 8 and 9 told of what is handed on: a large number is beyond the limit
-unfoldable limited_held : Float → Said (Option ℤ) → Told Float ℤ
+unfoldable pub limited_held : Float → Said (Option ℤ) → Told Float ℤ
 limited_held x (gives (Some z)) = cond (within z) (gives z) (refused 9 x)
 limited_held x (gives None) = refused 9 x
 limited_held x (refused n _) = refused n x
 
-effect_held : (x : Float) → effect_of x ≡ limited_held x (held_of (value_of x))
+pub effect_held : (x : Float) → effect_of x ≡ limited_held x (held_of (value_of x))
 unfolding effect_of limited limited_held held_of
 effect_held x = go (value_of x)
   where

@@ -1,11 +1,12 @@
 -- The value of a double, from the fields of its bits, and back from a whole number. Assumes nothing.
-use Rattle.std.proofs.Common.{◌≡◌, refl, sym, ap, ◌∙◌, subst, Bool, true, false, cond, ℕ, zero, suc, ◌+◌, ◌-◌, ◌*◌, ◌/◌, ◌%◌, ◌^◌, ◌≤◌, ◌<◌, zero-lt-suc, mod-lt, mod-eq_of_lt, div-one, lt_of_lt_of_le, mul-le-mul, mul_assoc, mul_right_comm, mul-one, add-zero, div-add-mod', arith, T, leb, eqb, eqb→eq, le→leb, lt→ltb, lit<, lit≤, ℤ, pos, negsuc, nat_abs, pow_pos, pow-add, pow_mono, Float, to_bits, eq-eqb, ne_eqb}
+use Rattle.std.proofs.Common.{◌≡◌, refl, sym, ap, ◌∙◌, subst, Bool, true, false, cond, not, ℕ, zero, suc, ◌+◌, ◌-◌, ◌*◌, ◌/◌, ◌%◌, ◌^◌, ◌≤◌, ◌<◌, zero-lt-suc, mod-lt, mod-eq_of_lt, div-one, lt_of_lt_of_le, mul-le-mul, mul_assoc, mul_right_comm, mul-one, add-zero, div-add-mod', arith, T, leb, eqb, eqb→eq, le→leb, lt→ltb, lit<, lit≤, ℤ, pos, negsuc, nat_abs, pow_pos, pow-add, pow_mono, Float, to_bits, eq-eqb, ne_eqb}
 use Rattle.std.proofs.Math.Nat.{mod-one, mul-mod_left, eq_of_mul-eq-mul_right}
-use Rattle.std.specs.Float.Ieee.{nan, inf, fin, binary64, up, down, odd, of_fields, of_bits, fits, is_nan, in_float, of_int, round}
+use Rattle.std.specs.Float.Ieee.{nan, inf, fin, binary64, up, down, odd, of_fields, of_bits, fits, is_nan, ne, in_float, of_int, round}
 use Rattle.std.specs.Float.Ieee.Fits.{down_pos}
 use Rattle.std.specs.Float.Ieee.Nearest.{div_same}
 use Rattle.std.specs.Float.Ieee.Bits.{of_bits-to_bits}
 use Rattle.std.specs.Float.Ieee.Back.{round_whole}
+use Rattle.std.specs.Float.Ieee.Compare.{differs_from_itself}
 use Rattle.std.specs.Float.Ieee.Exact.{HasValue, odd_sign}
 use Rattle.newtons.specs.Effect.{whole, not_whole, signed, fraction, value_of}
 
@@ -113,6 +114,17 @@ pub record Fields (x : Float) (s : Bool) (e t : ℕ) : Type 0 where
 pub fields_of : (x : Float) → T (fits binary64 x) → Fields x (leb (2 ^ 63) (to_bits binary64 x)) (to_bits binary64 x % 2 ^ 63 / 2 ^ 52) (to_bits binary64 x % 2 ^ 52)
 unfolding of_bits
 fields_of x h = record { is = of_bits-to_bits binary64 x h; digits = mod-lt (to_bits binary64 x) (pow_pos 52) }
+
+-- a double that is equal to itself is a number or an infinity, and one that is not is neither
+pub not_nan : (x : Float) → ne x x ≡ false → T (not (is_nan x))
+unfolding ne is_nan
+not_nan nan h = subst T h tt
+not_nan (inf s) h = tt
+not_nan (fin s m e) h = tt
+
+pub differs_value : (x : Float) → ne x x ≡ true → value_of x ≡ not_whole
+unfolding value_of
+differs_value x h = subst (λ (y : Float). value_of y ≡ not_whole) (sym (differs_from_itself x (subst T (sym h) tt))) refl
 
 pub nan_value : (x : Float) → is_nan x ≡ true → value_of x ≡ not_whole
 unfolding is_nan value_of

@@ -8,10 +8,11 @@ use Rattle.column.specs.declared.Line.{Line}
 use Rattle.column.specs.declared.Member.{Member}
 use Rattle.column.specs.declared.Column.{Column}
 use Rattle.column.specs.Accepted.{entry_number}
-use Rattle.column.specs.Column.{Outcome, column_of, opened_of, entered_of}
+use Rattle.column.specs.inner.Sound.{no_places}
+use Rattle.column.specs.Column.{Outcome, column_of, column_from, opened_of, entered_of, Reached}
 use Rattle.column.proofs.Columns.{column_lines}
 use Rattle.column.specs.theorems.InTurn.{Holdable}
-use Rattle.column.proofs.Reach.{holdable_none, holdable_more, entered_refused, opened_code, opened_column, opened_refused}
+use Rattle.column.proofs.Reach.{holdable_none, holdable_more, entered_refused, opened_code, opened_column, opened_refused, given_reached}
 use Rattle.figure.specs.declared.Working.{Working}
 use Rattle.figure.specs.Asked.{asked, asked_of}
 use Rattle.records.specs.Listed.{at_place, listed_from, listed_of}
@@ -86,3 +87,7 @@ answer_listed m lines f =
     (λ z. let is : opened_of m ≡ record { number = 0; column = column_of m [] } = λ i. record { number = z i; column = opened_column m z i } in
     ap (λ (u : Outcome). answer_of (entered_all u lines) f) is ∙ (along m z [] lines f holdable_none ∙ sym (listed_opened m lines f z)))
     (λ h. ap (λ (u : Outcome). answer_of u f) (stays (opened_of m) lines h) ∙ (unopened_answer m f h ∙ sym (listed_unopened m lines f h)))
+
+-- before the first line the member and the count kept make the column of opening, with no places used: it is reached, unless it was refused
+pub opens_sits : (m k : Member) (count n : ℕ) → record { number = n; column = column_from k count no_places } ≡ opened_of m → n ≡ 0 → Reached (column_from k count no_places)
+opens_sits m k count n o z = given_reached m (rw z at o)

@@ -55,7 +55,21 @@ module _ (x : InfluenceArea) where
       let less : root_scale x < 1572864 = sq_lt⁻¹ (omega arith) in
       omega arith
 
-  -- Newton's step from any number does not end below the scale, here in units of 2⁻²⁰
+  -- Newton's step from any number does not end below the scale
+  pub scale_step : (a : ℕ) → 1 ≤ a → 1 ≤ x.0 → root_scale x ≤ (a + sq (914 * 2 ^ 19) / (25 * x.0 * a)) / 2
+  scale_step a h some =
+      let q = sq (914 * 2 ^ 19) / (25 * x.0 * a) in
+      let pos : 0 < 25 * x.0 * a = omega (arith, mul-le-mul some h, mul_assoc 25 x.0 a) in
+      let above : sq (914 * 2 ^ 19) < 25 * x.0 * (a * (q + 1)) =
+      rw (← mul_assoc (25 * x.0) a (q + 1)) (lt-mul-div-succ (sq (914 * 2 ^ 19)) pos) in
+      elim (dec_le (root_scale x) ((a + q) / 2)) [
+        | yes p ↦ p
+        | no n ↦
+            let under : a * (q + 1) ≤ sq (root_scale x) = under_square a (q + 1) (root_scale x) (omega (arith, lt_of_not-le n)) in
+            absurd (not-le_of_lt above (le_trans (mul-le-mul_left (25 * x.0) under) (scale_fits (le_refl _))))
+      ]
+
+  -- and so in units of 2⁻²⁰
   pub step_above : (a : ℕ) → 1 ≤ a → 1 ≤ x.0 → 2 * root_scale x ≤ (a + sq (914 * 2 ^ 20) / (25 * x.0 * a)) / 2
   step_above a h some =
       let q = sq (914 * 2 ^ 20) / (25 * x.0 * a) in

@@ -15,16 +15,16 @@ pub formula_capped : (n : ℕ) (x : InfluenceArea) → x.0 ≤ 3712 → Twentiet
 unfolding formula_share
 formula_capped n x h = rw (cap_last x, le-leb x.0 3712 h)
 
-formula_past : (n : ℕ) (x : InfluenceArea) (k : ℕ) (b : Bool) → least_twentieths n ≡ k → 3712 < x.0 → root_at_most k x ≡ b
+pub formula_past : (n : ℕ) (x : InfluenceArea) (k : ℕ) (b : Bool) → least_twentieths n ≡ k → 3712 < x.0 → root_at_most k x ≡ b
     → cond b (Twentieths k) (Root x) ≡ formula_share n x
 unfolding formula_share
 formula_past n x k b least past h = rw (cap_last x, lt-leb x.0 3712 past, least, h)
 
-least_one : (n : ℕ) → n ≤ 1 → least_twentieths n ≡ 10
+pub least_one : (n : ℕ) → n ≤ 1 → least_twentieths n ≡ 10
 unfolding least_twentieths one_floor
 least_one n h = rw (le-leb n 1 h)
 
-least_more : (n : ℕ) → 1 < n → least_twentieths n ≡ 8
+pub least_more : (n : ℕ) → 1 < n → least_twentieths n ≡ 8
 unfolding least_twentieths one_floor
 least_more n h = rw (lt-leb n 1 h)
 

@@ -2,7 +2,7 @@
 -- Assumes nothing.
 use denote.Enum.Bare.{tag_one}
 use denote.Enum.Declared.{tag_of}
-use Rattle.std.proofs.Common.{◌≡◌, refl, ap, false, ℕ, zero, suc, ◌+◌, ◌≤◌, arith, eqb, ne_eqb}
+use Rattle.std.proofs.Common.{◌≡◌, refl, sym, ◌∙◌, ap, false, ℕ, zero, suc, ◌+◌, ◌≤◌, arith, eqb, ne_eqb}
 use Rattle.std.specs.Prelude.{Result, Ok, Err, IsOk}
 use Rattle.refusal.specs.declared.Refusal.{Refusal}
 use Rattle.refusal.specs.declared.Refusal.TheVariants.{UnknownCode, TooManyLines, FloorOutOfRange, UnknownClass, LoadOutOfRange, AreaOutOfRange}
@@ -10,7 +10,7 @@ use Rattle.refusal.specs.declared.Refusal.TheVariants.{NoLineAtFloor, EffectNotW
 use Rattle.refusal.specs.declared.Refused.{Refused}
 use Rattle.refusal.specs.contracts.Refusal.{the_type}
 use Rattle.refusal.specs.Refusal.{number_of}
-use Rattle.refusal.specs.Said.{gives, said, told}
+use Rattle.refusal.specs.Said.{gives, refused, nothing, said, told}
 
 -- the number of a case is the one that stands beside it, and the cases are numbered in a row
 pub numbered : (r : Refusal) → tag_of the_type r + 1 ≡ number_of r
@@ -74,6 +74,13 @@ is_given (Err r) {y} q = cc
 
 pub gives_it : {A : Type 0} {a : Result A Refusal} {x y : A} → a ≡ Ok x → said a ≡ gives y → x ≡ y
 gives_it {A} {a} p q = let is = is_given a q in cc
+
+pub gives_not_refused : {A : Type 0} {a : Result A Refusal} {r : Refusal} {y : A} → a ≡ Err r → said a ≡ gives y → ⊥
+unfolding said
+gives_not_refused {A} {a} {r} {y} p q =
+    let e : refused (number_of r) nothing ≡ gives y = ap said (sym p) ∙ q in
+    let z : ◌≡◌ {A = ℕ} 0 1 = cc in
+    omega arith
 
 pub gives_ok : {A : Type 0} (a : Result A Refusal) {y : A} → said a ≡ gives y → IsOk a
 gives_ok a {y} q = let is : a ≡ Ok y = is_given a q in rw is
