@@ -1,5 +1,5 @@
 -- What holds of every answer: the doubles keep their sums, the rows govern, and the first beyond the limit is named. Assumes nothing.
-use Rattle.std.proofs.Common.{◌≡◌, refl, ◌∙◌, ap, Bool, true, false, not, cond, List, [], ◌∷◌, zero, suc, ◌^◌, ◌≤◌, ◌<◌, le_trans, arith, lit≤, ℤ, nat_abs, Float, length, le-leb, leb-true}
+use Rattle.std.proofs.Common.{◌≡◌, refl, ◌∙◌, ap, Bool, true, false, not, cond, List, [], ◌∷◌, ℕ, zero, suc, ◌^◌, ◌≤◌, ◌<◌, le_trans, arith, lit≤, ℤ, pos, nat_abs, Float, length, get_or, le-leb, leb-true}
 use Rattle.std.proofs.Math.Path.{subst⁻¹}
 use Rattle.std.specs.Prelude.{map, Option, Some, None}
 use Rattle.std.specs.List.{find}
@@ -67,6 +67,16 @@ none_found n (l ∷ ls) e i = go (within (of_load n l)) refl e (none_found n ls)
     go true w h f zero = leb-true (nat_abs (of_load n l)) limit w
     go true w h f (suc i) = f h i
     go false w h f i = let never : Some l ≡ None = h in absurd (cc)
+
+-- 9 and the load at an index, where the number there is the first beyond the limit
+pub first_beyond : (ls : List Load) (zs : List ℤ) (g : Governing) (i : ℕ) (d : Load) → i < length ls → i < length zs
+    → ((k : ℕ) → k < i → nat_abs (get_or zs k (pos 0)) ≤ limit) → within (get_or zs i (pos 0)) ≡ false → limited_from ls zs g ≡ refused 9 (get_or ls i d)
+unfolding limited_from
+first_beyond [] zs g i d h k f e = absurd (omega arith)
+first_beyond (l ∷ ls) [] g i d h k f e = absurd (omega arith)
+first_beyond (l ∷ ls) (z ∷ zs) g zero d h k f e = rw e
+first_beyond (l ∷ ls) (z ∷ zs) g (suc i) d h k f e =
+    rw (le-leb (nat_abs z) limit (f 0 (omega arith))) (first_beyond ls zs g i d (omega arith) (omega arith) (λ j p. f (suc j) (omega arith)) e)
 
 -- none is beyond it
 none_beyond : (ls : List Load) (zs : List ℤ) (g : Governing) → EachAtMost limit zs → limited_from ls zs g ≡ gives g

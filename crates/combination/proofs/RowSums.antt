@@ -1,5 +1,5 @@
 -- The sizes of products and sums of whole numbers, and the sum of a row. Assumes nothing.
-use Rattle.std.proofs.Common.{◌≡◌, refl, sym, subst, Bool, true, false, cond, ◌⊎◌, ⊎_elim, List, [], ◌∷◌, ℕ, suc, ◌+◌, ◌-◌, ◌*◌, ◌≤◌, ◌<◌, le_refl, lt_of_le_of_lt, mul-le-mul, arith, T, ltb, ltb→lt, lit<, ℤ, pos, negsuc, nat_abs, ◌+ℤ◌, ◌*ℤ◌, length, w8, to_z, of_z}
+use Rattle.std.proofs.Common.{◌≡◌, refl, sym, subst, Bool, true, false, cond, ◌⊎◌, ⊎_elim, List, [], ◌∷◌, ℕ, suc, ◌+◌, ◌-◌, ◌*◌, ◌≤◌, ◌<◌, le_refl, lt_of_le_of_lt, mul-le-mul, arith, T, ltb, ltb→lt, lit<, ℤ, pos, negsuc, nat_abs, ◌+ℤ◌, ◌*ℤ◌, length, length-drop, get_or, get_or-drop, drop, drop-cons, drop_of_length-le, w8, to_z, of_z}
 use Rattle.std.proofs.Math.IntN.{sub_ℕ}
 use Rattle.std.proofs.lemmas.Int.{to_z-of_z}
 use Rattle.newtons.specs.Effect.{limit}
@@ -51,8 +51,26 @@ sum_size (f ∷ fs) [] F X = omega arith
 sum_size (f ∷ fs) (x ∷ xs) F X =
     omega (arith, size_add (f *ℤ x) (sum_of fs xs), size_product f x (F 0) (X 0), sum_size fs xs (λ i. F (suc i)) (λ i. X (suc i)))
 
-pub sum_small : (fs xs : List ℤ) → Seven 16 fs → Seven limit xs → nat_abs (sum_of fs xs) ≤ most_sum
-sum_small fs xs F X = omega (arith, F.count, sum_size fs xs F.each X.each)
+pub sum_small : (fs xs : List ℤ) → Seven 16 fs → Seven limit xs → (j : ℕ) → nat_abs (sum_of (drop j fs) (drop j xs)) ≤ most_sum
+sum_small fs xs F X j =
+    omega (
+      arith,
+      length-drop j fs,
+      F.count,
+      sum_size (drop j fs) (drop j xs)
+          (λ i. subst (λ (z : ℤ). nat_abs z ≤ 16) (sym (get_or-drop j fs i (pos 0))) (F.each (j + i)))
+          (λ i. subst (λ (z : ℤ). nat_abs z ≤ limit) (sym (get_or-drop j xs i (pos 0))) (X.each (j + i))),
+    )
+
+-- from an index on: the index's product and the rest
+pub sum_from : (j : ℕ) (fs xs : List ℤ) → j < length fs → j < length xs
+    → sum_of (drop j fs) (drop j xs) ≡ get_or fs j (pos 0) *ℤ get_or xs j (pos 0) +ℤ sum_of (drop (suc j) fs) (drop (suc j) xs)
+unfolding sum_of
+sum_from j fs xs h k = rw (drop-cons fs j (pos 0) h, drop-cons xs j (pos 0) k)
+
+pub sum_end : (fs xs : List ℤ) → length fs ≡ 7 → sum_of (drop 7 fs) (drop 7 xs) ≡ pos 0
+unfolding sum_of
+sum_end fs xs h = rw (drop_of_length-le fs {i = 7} (omega arith))
 
 -- where there is no factor or no effect left
 pub sum_none : (fs xs : List ℤ) → (length fs ≡ 0) ⊎ (length xs ≡ 0) → sum_of fs xs ≡ pos 0

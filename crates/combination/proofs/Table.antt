@@ -37,4 +37,4 @@ sums_some xs = omega (arith, sums_length xs)
 pub sums_small : (xs : List ℤ) → Seven limit xs → EachAtMost most_sum (sums xs)
 sums_small xs X =
     each_below (sums xs)
-    (λ i h. subst (λ (z : ℤ). nat_abs z ≤ most_sum) (sym (sum_at xs i)) (sum_small (get_or factors i []) xs (row_fits i (omega (arith, sums_length xs))) X))
+    (λ i h. subst (λ (z : ℤ). nat_abs z ≤ most_sum) (sym (sum_at xs i)) (sum_small (get_or factors i []) xs (row_fits i (omega (arith, sums_length xs))) X 0))

@@ -1,5 +1,5 @@
 -- The check of the seven effects, one step over any of them. Assumes nothing.
-use Rattle.std.proofs.Common.{◌≡◌, refl, subst, List, [], ◌∷◌, ◌++◌, ℕ, zero, suc, ◌+◌, ◌<◌, ◌≤◌, le_trans, arith, lit≤, ℤ, nat_abs, Float, length, length-append, drop, get_or}
+use Rattle.std.proofs.Common.{◌≡◌, refl, subst, List, [], ◌∷◌, ◌++◌, ℕ, zero, suc, ◌+◌, ◌<◌, ◌≤◌, le_trans, arith, lit≤, ℤ, nat_abs, Float, length, length-append, take, drop, get_or, set, add-one, take_all, drop-cons, take-suc-set, drop_of_length-le}
 use Rattle.std.proofs.lemmas.List.{drop_more}
 use Rattle.std.specs.Float.Ieee.{binary64, of_int}
 use Rattle.effects.specs.declared.PerLoad.{PerLoad}
@@ -14,6 +14,10 @@ use Rattle.effects.specs.theorems.Doubles.{doubles_of}
 use Rattle.effects.specs.inner.Sized.{EachAtMost, Sized, Seven}
 use Rattle.newtons.proofs.Values.{value_back}
 use Rattle.newtons.proofs.Limits.{effect_whole, effect_within}
+
+pub listed_length : (e : PerLoad Float) → length (listed e) ≡ 7
+unfolding listed
+listed_length e = refl
 
 -- ---- a step: the effect at an index is taken, and the rest checked, or it is refused
 
@@ -39,6 +43,24 @@ module _ {L : Type 0} (taken : List ℤ) (es : List (LoadEffect L)) (i : ℕ) (d
           let p : number_of r.refusal ≡ n = cc in
           let q : r.back ≡ load_effect e.load x = cc in
           rw (p, q)
+
+-- ---- a step beside numbers that are all there: the effect at an index is taken or refused
+
+module _ {L : Type 0} (es : List (LoadEffect L)) (i : ℕ) (d : LoadEffect L) (h : i < length es) where
+  pub check_taken : (whole : List ℤ) {z : ℤ} → i < length whole → effect_of (get_or es i d).double ≡ gives z
+      → checked_from (take i whole) (drop i es) ≡ checked_from (take (i + 1) (set whole i z)) (drop (i + 1) es)
+  unfolding checked_from if_given
+  check_taken whole {z} k e = rw (drop-cons es i d h, e, add-one i, take-suc-set whole i z k)
+
+  pub check_refused : (taken : List ℤ) {n : ℕ} {x : Float} → effect_of (get_or es i d).double ≡ refused n x
+      → checked_from taken (drop i es) ≡ refused n (load_effect (get_or es i d).load x)
+  unfolding checked_from if_given
+  check_refused taken e = rw (drop-cons es i d h, e)
+
+-- past the last all are taken
+pub check_end : {L : Type 0} (whole : List ℤ) (es : List (LoadEffect L)) (i : ℕ) → length whole ≤ i → length es ≤ i → checked_from (take i whole) (drop i es) ≡ gives whole
+unfolding checked_from
+check_end whole es i h k = rw (take_all i whole h, drop_of_length-le es {i = i} k)
 
 -- ---- the whole numbers taken are within the limit
 

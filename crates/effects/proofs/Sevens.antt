@@ -1,9 +1,28 @@
 -- Seven numbers that 64 bits keep. Assumes nothing.
-use Rattle.std.proofs.Common.{Bool, true, ◌&&◌, List, [], ◌∷◌, ℕ, zero, suc, zero-le, ◌≤◌, ◌<◌, arith, T, leb, eqb, leb→le, le→leb, eqb→eq, ℤ, pos, nat_abs, length, get_or}
+use Rattle.std.proofs.Common.{refl, ◌∙◌, Bool, true, ◌&&◌, List, [], ◌∷◌, ℕ, zero, suc, zero-le, ◌≤◌, ◌<◌, arith, T, leb, eqb, leb→le, le→leb, eqb→eq, ℤ, pos, nat_abs, length, get_or, set, replicate, length-set}
 use Rattle.std.specs.Float.Ieee.Fits.{and_l, and_r}
 use Rattle.effects.specs.inner.Sized.{EachAtMost, Seven}
 
 -- ---- seven numbers, each at most so large in size
+
+-- seven zeros, and seven with one set anew
+pub seven_zeros : {most : ℕ} → Seven most (replicate 7 (pos 0))
+seven_zeros {most} = record { count = refl; each = go 7 }
+  where
+    go : (n : ℕ) → EachAtMost most (replicate n (pos 0))
+    go zero k = omega arith
+    go (suc n) zero = omega arith
+    go (suc n) (suc k) = go n k
+
+pub seven_set : {most : ℕ} (xs : List ℤ) (i : ℕ) (z : ℤ) → Seven most xs → nat_abs z ≤ most → Seven most (set xs i z)
+seven_set {most} xs i z s h = record { count = length-set xs i z ∙ s.count; each = go xs i s.each }
+  where
+    go : (l : List ℤ) (j : ℕ) → EachAtMost most l → EachAtMost most (set l j z)
+    go [] j f k = f k
+    go (x ∷ l) zero f zero = h
+    go (x ∷ l) zero f (suc k) = f (suc k)
+    go (x ∷ l) (suc j) f zero = f 0
+    go (x ∷ l) (suc j) f (suc k) = go l j (λ m. f (suc m)) k
 
 -- past its end a list has no large number either
 pub each_below : {most : ℕ} (xs : List ℤ) → ((i : ℕ) → i < length xs → nat_abs (get_or xs i (pos 0)) ≤ most) → EachAtMost most xs

@@ -1,12 +1,12 @@
 -- What the report puts and answers, by what reading gave; and that with the line of a refusal it is all that takedown prints.
 -- Assumes nothing.
-use Rattle.std.proofs.Common.{◌≡◌, refl, sym, ◌∙◌, ap, List, [], ℕ, ◌≤◌, length, eq-eqb}
+use Rattle.std.proofs.Common.{◌≡◌, refl, sym, ◌∙◌, ap, List, [], ℕ, ◌≤◌, length, take, eq-eqb}
 use Rattle.std.proofs.Math.Path.{subst⁻¹}
 use Rattle.refusal.proofs.Said.{not_zero}
 use Rattle.text.specs.Text.{joined}
 use Rattle.text.specs.Put.{fronted}
 use Rattle.io.specs.Counts.{IsPrefixLen}
-use Rattle.text.proofs.Puts.{Front}
+use Rattle.text.proofs.Puts.{Front, fronted_take}
 use Rattle.sheet.specs.Sheet.{Reading, read_sheet}
 use Rattle.report.specs.Report.{Reported, takedown_of, refusal_text, report_of, put_of, reported_of}
 use Rattle.report.specs.theorems.Prints.{Prints}
@@ -59,3 +59,16 @@ module _ (text before : List ℕ) {after : List ℕ} {r : Reported} (e : r ≡ r
         is = p ∙ (ap (fronted (refusal_text r.number r.line)) same ∙ sym (ap (λ (t : List ℕ). fronted t before) all));
         counts = c;
       }
+
+  -- and its first bytes are, whatever stood behind them
+  pub read_taken : r.number ≡ 0 → after ≡ fronted (put_of text) before → take r.length after ≡ report_of text
+  unfolding reported_of
+  read_taken n p = ap (λ (o : Reported). take o.length after) e ∙ (ap (take (length (put_of text))) p ∙ (fronted_take (put_of text) before ∙ sym ((prints text).read (sym (ap (λ (o : Reported). o.number) e) ∙ n))))
+
+  pub refused_taken : {k : ℕ} → 1 ≤ r.number → k ≡ length (refusal_text r.number r.line) → after ≡ fronted (refusal_text r.number r.line) before
+      → take k after ≡ report_of text
+  refused_taken n q p =
+      let t = refusal_text r.number r.line in
+      ap (λ (k : ℕ). take k after) q
+      ∙ (ap (take (length t)) p
+      ∙ (fronted_take t before ∙ sym (subst⁻¹ (λ (o : Reported). 1 ≤ o.number → report_of text ≡ refusal_text o.number o.line) e (prints text).refused n)))

@@ -45,10 +45,14 @@ pub read_start : (text : List ℕ) → length text ≤ 32768 → read_sheet text
 unfolding read_sheet
 read_start text h = rw (le-ltb 32768 (length text) h)
 
--- what is read of a text without a refusal keeps the limits
-pub promised : (text : List ℕ) (r : ReadSheet) → reading_told r ≡ read_sheet text → r.refusal ≡ None → Keeps r.sheet
+-- what is said of a reading of the text
+pub promised : (text : List ℕ) {r : Reading} → r ≡ read_sheet text → (r ≡ read_sheet text) × (r.number ≡ 0 → Keeps r.sheet)
+promised text e = (e, subst⁻¹ (λ (r : Reading). r.number ≡ 0 → Keeps r.sheet) e (read_keeps text))
+
+-- so an answer without a refusal keeps the limits
+pub answer_keeps : (text : List ℕ) (r : ReadSheet) → reading_told r ≡ read_sheet text → r.refusal ≡ None → Keeps r.sheet
 unfolding reading_told number_or_0
-promised text r e none = subst⁻¹ (λ (q : Reading). q.number ≡ 0 → Keeps q.sheet) e (read_keeps text) (ap number_or_0 none)
+answer_keeps text r e none = (promised text e).1 (ap number_or_0 none)
 
 -- the part that a reading hands back lies within the text
 pub record PartOf (n : ℕ) (r : Reading) : Type 0 where

@@ -1,14 +1,17 @@
 -- One step of each definition that goes over bytes, at a place of a line; how large a number is and where it ends; and what begins with a key.
 -- Assumes nothing.
 use lib.Pointwise.{pointwise}
-use Rattle.std.specs.Prelude.{Option, Some, None, slice_get}
+use Rattle.std.specs.Prelude.{Option, Some, None, option_map, slice_get}
 use Rattle.std.specs.List.{starts_with}
 use Rattle.std.proofs.Common.{inl, inr, ◌≡◌, refl, sym, ◌∙◌, ap, ap₂, subst, Bool, true, false, cond, ◌&&◌, List, [], ◌∷◌, ◌++◌, ℕ, zero, suc, ◌+◌, ◌-◌, ◌*◌, ◌^◌, ◌<◌, ◌≤◌, arith, add-one, pow-suc, length, take, drop, get_or, drop_of_length-le, length-append, length-drop, drop-cons, ltb, eqb, lit≤, lt-ltb, le-ltb, eq-eqb, ne_eqb, eqb-true, ltb-true}
 use Rattle.std.specs.Char.{IsNotAsciiDigit}
 use Rattle.std.proofs.Math.Nat.{pow-le-pow_right}
 use Rattle.std.proofs.lemmas.Bool.{false≢true, eqb-false}
 use Rattle.sheet_lines.specs.declared.number.Read.{Read}
-use Rattle.sheet_lines.specs.Number.{may_grow, number_ended, number_from, begins}
+use Rattle.sheet_lines.specs.Number.{may_grow, number_ended, number_from, begins, field_at}
+use Rattle.sheet_lines.specs.declared.Form.{Form}
+use Rattle.sheet_lines.specs.Form.{with_number, fields_from}
+use Rattle.sheet_lines.specs.theorems.Says.{key_at}
 use Rattle.sheet_lines.specs.inner.InLine.{Small}
 
 -- a number that was read, and the place after it
@@ -35,11 +38,19 @@ module _ (l : List ℕ) (count value next : ℕ) where
   unfolding number_from
   number_end h = rw (drop_of_length-le l h)
 
-  -- at a byte that is no digit
-  pub number_other : next < length l → IsNotAsciiDigit (get_or l next 0) → number_from count value next (drop next l) ≡ number_ended count value next
+  -- at a byte below the digits, and at one above them
+  pub number_low : next < length l → get_or l next 0 < 48 → number_from count value next (drop next l) ≡ number_ended count value next
   unfolding number_from
-  number_other h (inl b) = rw (opened l next h, lt-ltb _ _ b)
-  number_other h (inr b) = let a : 48 ≤ get_or l next 0 = omega arith in rw (opened l next h, le-ltb _ _ a, lt-ltb _ _ b)
+  number_low h b = rw (opened l next h, lt-ltb _ _ b)
+
+  pub number_high : next < length l → 48 ≤ get_or l next 0 → 57 < get_or l next 0 → number_from count value next (drop next l) ≡ number_ended count value next
+  unfolding number_from
+  number_high h a b = rw (opened l next h, le-ltb _ _ a, lt-ltb _ _ b)
+
+  -- so at a byte that is no digit
+  pub number_other : next < length l → IsNotAsciiDigit (get_or l next 0) → number_from count value next (drop next l) ≡ number_ended count value next
+  number_other h (inl b) = number_low h b
+  number_other h (inr b) = number_high h (omega arith) b
 
   -- at a digit
   pub number_digit : next < length l → 48 ≤ get_or l next 0 → get_or l next 0 ≤ 57 → (t : Bool) → may_grow count value ≡ t
@@ -140,6 +151,29 @@ key_within key line at h e = omega (arith, ap length (begins_from key (drop at l
 pub small_is : {most : ℕ} {o : Option Read} {r : Read} → Small most o → o ≡ Some r → (r.value < 10000000000000) × (r.next ≤ most)
 unfolding Small
 small_is {most} h e = subst (Small most) e h
+
+module _ (done : List ℕ) (keys : List (List ℕ)) (l : List ℕ) (at i : ℕ) (h : i < length keys) where
+  -- the number behind the next key is read
+  pub fields_next : (v p : ℕ) → field_at (key_at keys i) l at ≡ Some (read v p)
+      → fields_from done (drop i keys) l at ≡ fields_from (done ++ (v ∷ [])) (drop (i + 1) keys) l p
+  unfolding fields_from with_number
+  fields_next v p e = rw (add-one, drop-cons keys i [], e)
+
+  -- or there is none
+  pub fields_none : field_at (key_at keys i) l at ≡ None → fields_from done (drop i keys) l at ≡ None
+  unfolding fields_from with_number
+  fields_none e = rw (drop-cons keys i [], e)
+
+-- after the last key the line has ended
+pub fields_end : (done : List ℕ) (keys : List (List ℕ)) (l : List ℕ) (at i : ℕ) → length keys ≤ i
+    → fields_from done (drop i keys) l at ≡ cond (eqb at (length l)) (Some done) None
+unfolding fields_from
+fields_end done keys l at i h = rw (drop_of_length-le keys h)
+
+-- the form of a line by what was told of its numbers
+pub form_told : (b : Bool) (ns : List ℕ) {o : Option (List ℕ)} (form : List ℕ → Form) → cond b (Some ns) None ≡ o → option_map form o ≡ cond b (Some (form ns)) None
+form_told true ns form e = rw (← e)
+form_told false ns form e = rw (← e)
 
 -- what is looked up at a place of a list: an item before its end, and none from there on
 pub get_none : {A : Type 0} (xs : List A) (i : ℕ) → None ≡ slice_get xs i → length xs ≤ i

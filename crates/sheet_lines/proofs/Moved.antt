@@ -148,16 +148,7 @@ pub fields_more : (done : List ℕ) (key : List ℕ) (keys : List (List ℕ)) (s
 unfolding fields_from with_number
 fields_more done key keys s v p e h = rw e (fields_rest (done ++ (v ∷ [])) keys s p h)
 
--- or none is
-pub fields_none : (done : List ℕ) (key : List ℕ) (keys : List (List ℕ)) (s : List ℕ) → field_at key s 0 ≡ None → fields_from done (key ∷ keys) s 0 ≡ None
-unfolding fields_from with_number
-fields_none done key keys s e = rw e
-
--- after the last key the line has ended
-pub fields_end : (done s : List ℕ) → length s ≡ 0 → fields_from done [] s 0 ≡ Some done
-unfolding fields_from
-fields_end done s h = rw (eq-eqb 0 (length s) (sym h))
-
+-- after the last key nothing may be left
 pub fields_left : (done s : List ℕ) → (length s ≡ 0 → ⊥) → fields_from done [] s 0 ≡ None
 unfolding fields_from
 fields_left done s h = rw (ne_eqb 0 (length s) (λ e. h (sym e)))

@@ -1,6 +1,7 @@
--- The six effects of a sheet are checked as the seven of an analysis are, with a live effect of 0 among them.
+-- The six effects of a sheet are checked as the seven of an analysis are, with a live effect of 0 among them; and what writing
+-- gives by the check of seven.
 -- Assumes nothing.
-use Rattle.std.proofs.Common.{◌≡◌, refl, sym, ◌∙◌, ap, List, [], ◌∷◌, ℕ, ℤ, pos, arith, Result, Ok, Err, Float}
+use Rattle.std.proofs.Common.{◌≡◌, refl, sym, ◌∙◌, ap, List, [], ◌∷◌, ℕ, ℤ, pos, arith, Result, Ok, Err, Some, Float}
 use Rattle.refusal.specs.declared.Refused.{Refused}
 use Rattle.refusal.specs.Refusal.{number_of}
 use Rattle.refusal.specs.Said.{Told, gives, refused}
@@ -13,9 +14,12 @@ use Rattle.effects.specs.declared.Load.{Load}
 use Rattle.effects.specs.declared.Load.TheVariants.{Dead, Live, Roof, Snow, Rain, Wind, Quake}
 use Rattle.effects.specs.Check.{load_effect, listed, newtons_of, if_given, checked_from, checked_of, said_checked}
 use Rattle.effects.proofs.Checks.{checked_seven}
+use Rattle.column.specs.declared.Column.{Column}
 use Rattle.sheet.specs.Keeps.{EffectsWithin}
+use Rattle.sheet_text.specs.Written.{written}
 use Rattle.sheet_writer.specs.declared.SheetDoubles.{SheetDoubles}
-use Rattle.sheet_writer.specs.Saving.{Placed, six_listed, six_checked, no_effect}
+use Rattle.sheet_writer.specs.Saving.{Placed, six_listed, six_checked, no_effect, if_whole, if_room, saving}
+use Rattle.sheet_writer.proofs.Checks.{saving_whole}
 
 -- the six effects with a live effect of 0 among them; and six of seven whole numbers
 abbrev pub seven_of : SheetDoubles → PerLoad Float
@@ -33,17 +37,17 @@ without_live (gives []) = gives []
 without_live (refused n e) = refused n e
 
 -- the place of a load on a sheet; and what is told with the places beside the doubles
-place : Load → ℕ
-place Dead = 1
-place Live = 0
-place Roof = 2
-place Snow = 3
-place Rain = 4
-place Wind = 5
-place Quake = 6
+unfoldable pub sheet_place : Load → ℕ
+sheet_place Dead = 1
+sheet_place Live = 0
+sheet_place Roof = 2
+sheet_place Snow = 3
+sheet_place Rain = 4
+sheet_place Wind = 5
+sheet_place Quake = 6
 
-by_place : LoadEffect Load → Placed
-by_place e = load_effect (place e.load) e.double
+abbrev pub by_place : LoadEffect Load → Placed
+by_place e = load_effect (sheet_place e.load) e.double
 
 placed : Told (LoadEffect Load) (List ℤ) → Told Placed (List ℤ)
 placed (gives zs) = gives zs
@@ -58,7 +62,7 @@ zero_taken = effect_whole no_effect.double refl (omega arith)
 six_among : (e : SheetDoubles) (d r s n w q : Told Float ℤ)
     → effect_of e.dead ≡ d → effect_of e.roof ≡ r → effect_of e.snow ≡ s → effect_of e.rain ≡ n → effect_of e.wind ≡ w → effect_of e.quake ≡ q
     → six_checked e ≡ placed (without_live (checked_of (seven_of e)))
-unfolding six_checked six_listed checked_of listed checked_from if_given place by_place placed without_live
+unfolding six_checked six_listed checked_of listed checked_from if_given sheet_place placed without_live
 six_among e (refused _ _) _ _ _ _ _ d r s n w q = rw d
 six_among e (gives _) (refused _ _) _ _ _ _ d r s n w q = rw (d, zero_taken, r)
 six_among e (gives _) (gives _) (refused _ _) _ _ _ d r s n w q = rw (d, zero_taken, r, s)
@@ -89,3 +93,11 @@ module _ (e : SheetDoubles) {r : Result (PerLoad ℤ) (Refused (LoadEffect Load)
   six_refused : {q : Refused (LoadEffect Load)} → r ≡ Err q → six_checked e ≡ refused (number_of q.refusal) (by_place q.back)
   unfolding said_checked without_live placed
   six_refused {q} h = six_among_seven e ∙ ap (λ t. placed (without_live t)) (sym says ∙ ap said_checked h)
+
+  -- and what writing gives then
+  pub saving_whole_of_seven : (c : Column) (room : ℕ) {n : PerLoad ℤ} → r ≡ Ok n → saving c e room ≡ if_room room (written (record { column = c; effects = six_of n }))
+  saving_whole_of_seven c room h = saving_whole c e room (six_whole h)
+
+  pub saving_refused_of_seven : (c : Column) (room : ℕ) {q : Refused (LoadEffect Load)} → r ≡ Err q → saving c e room ≡ refused (number_of q.refusal) (Some (by_place q.back))
+  unfolding saving if_whole
+  saving_refused_of_seven c room h = rw (six_refused h)

@@ -1,13 +1,15 @@
 -- How long the lines of a sheet are, and the longest sheet.
 -- Assumes nothing.
-use Rattle.std.proofs.Common.{sym, ap, add-zero, min, ◌≡◌, List, [], ◌∷◌, ◌++◌, ℕ, ◌+◌, ◌*◌, ◌^◌, ◌≤◌, ◌<◌, arith, ℤ, nat_abs, length, length-append}
+use Rattle.std.proofs.Common.{sym, ap, add-zero, min, ◌≡◌, true, false, List, [], ◌∷◌, ◌++◌, ℕ, ◌+◌, ◌*◌, ◌^◌, ◌≤◌, ◌<◌, arith, ℤ, pos, nat_abs, length, length-append}
+use Rattle.std.specs.Int.Signed.{lt_z}
 use Rattle.text.specs.Put.{field_parts, put_all}
 use Rattle.text.specs.Text.{joined, decimal, signed_decimal}
 use Rattle.text.proofs.Puts.{joined_append, joined_length}
 use Rattle.text.proofs.Decimal.{length_most}
-use Rattle.text.proofs.Sign.{signed_length}
+use Rattle.text.proofs.Sign.{signed_below, signed_from_zero, signed_length}
 use Rattle.lists.specs.Lists.{All, none, more}
 use Rattle.newtons.specs.Effect.{magnitude_of, limit}
+use Rattle.effects.specs.declared.PerLoad.{PerLoad}
 use Rattle.column.specs.declared.Line.{Line}
 use Rattle.column.specs.Column.{lines_of}
 use Rattle.column.specs.inner.Sound.{InLimits}
@@ -22,6 +24,7 @@ use Rattle.sheet_text.specs.Written.{written}
 use Rattle.sheet_writer.specs.inner.Counted.{counted}
 use Rattle.sheet_writer.specs.inner.Parts.{member_parts, line_parts, floors_parts, effect_parts, effects_parts, sheet_parts}
 use Rattle.sheet_writer.proofs.Texts.{sheet_text}
+use Rattle.sheet_writer.proofs.Seven.{six_of}
 
 -- by the numbers in them: the member's line, a floor line, and the line of an effect
 pub member_length : (code : ℕ) → length (joined (member_parts code)) ≡ 8 + length (decimal code)
@@ -37,11 +40,29 @@ effect_length : (key : List ℕ) (z : ℤ) → length (joined (effect_parts key 
 unfolding effect_parts joined
 effect_length key z = simp (length-append, joined_append) (omega arith)
 
--- one effect more, and all of them
+-- a number below 0 has its sign before its digits, and no other has
+pub signed_below_length : (z : ℤ) → lt_z z (pos 0) ≡ true → length (signed_decimal z) ≡ length (decimal (nat_abs z)) + 1
+unfolding joined
+signed_below_length z h = rw (signed_below z h) (simp length-append (omega arith))
+
+pub signed_from_zero_length : (z : ℤ) → lt_z z (pos 0) ≡ false → length (signed_decimal z) ≡ length (decimal (nat_abs z))
+unfolding joined
+signed_from_zero_length z h = rw (signed_from_zero z h) (simp length-append (omega arith))
+
+-- one effect more, and all six of seven
 effects_more : (key : List ℕ) (keys : List (List ℕ)) (z : ℤ) (zs : List ℤ)
     → length (joined (effects_parts (key ∷ keys) (z ∷ zs))) ≡ length key + length (signed_decimal z) + 1 + length (joined (effects_parts keys zs))
 unfolding effects_parts
 effects_more key keys z zs = omega (arith, joined_length (effect_parts key z) (effects_parts keys zs), effect_length key z)
+
+pub effects_length : (n : PerLoad ℤ)
+    → length (joined (effects_parts effect_keys (six_of n)))
+    ≡ 37
+    + (length (signed_decimal n.dead) + length (signed_decimal n.roof) + length (signed_decimal n.snow))
+    + (length (signed_decimal n.rain) + length (signed_decimal n.wind) + length (signed_decimal n.quake))
+unfolding effect_keys effects_parts joined
+effects_length n =
+    simp effects_more (omega arith)
 
 -- texts that are counted have these bytes, where 64 bits hold them
 pub counted_all : (n : ℕ) (ts : List (List ℕ)) → n + length (joined ts) < 2 ^ 64 → put_all counted (record { bytes = n }) ts ≡ record { bytes = n + length (joined ts) }
