@@ -3,11 +3,11 @@
     specs_table.py            prints the list, and writes it into docs/STATEMENTS.md
     specs_table.py --check    changes nothing, and fails where something is wrong: a reachable function or method that says
                               nothing, one that asks more than that a column is reached, or a type that asks more by a
-                              ghost field (but for a lent sheet, whose effects are within the limit), a function
-                              without a row among the promises, a definition of another shelf that is reached, one at
-                              the top of specs/ that is not, one without a place in the paper that is not marked so, a
-                              point of the book that nothing says, a list that is not as the files are, more lines than
-                              a reviewer can take, or a line that this script does not understand
+                              ghost field, a function without a row among the promises, a definition of another shelf
+                              that is reached, one at the top of specs/ that is not, one without a place in the paper
+                              that is not marked so, a point of the book that nothing says, a list that is not as the
+                              files are, more lines than a reviewer can take, or a line that this script does not
+                              understand
 """
 
 import sys

@@ -417,14 +417,16 @@ class Faults(Made):
             self.said(["low::asked can be reached, and asks more"], "crates/low/src/lib.rt", code)
 
     def test_lent_sheet(self):
-        """A sheet that is lent asks that it keeps the limits: just so, and nothing else asks that."""
+        """A sheet that is lent asks that its column is reached, and no limit of its effects."""
         lend, within = ("sheet::Sheet::lend", "requires"), ("sheet::SheetRef.within", "ghost")
         for (function, kind), text, allowed in (
-            (lend, "{ Keeps self.now }", True),
-            (lend, "{\n Keeps self.now\n }", True),
-            (lend, "{ Keeps self.now × Sort self.now }", False),
+            (lend, "{ Reached self.now.column }", True),
+            (lend, "{\n Reached self.now.column\n }", True),
+            (lend, "{ Keeps self.now }", False),
+            (lend, "{ Reached self.now.column × EffectsWithin self.now.effects }", False),
             (lend, "{ ∥ EffectsWithin effects ∥₁ }", False),
-            (within, "{ ∥ EffectsWithin effects ∥₁ }", True),
+            (within, "{ ∥ Reached column ∥₁ }", True),
+            (within, "{ ∥ EffectsWithin effects ∥₁ }", False),
             (within, "{ EffectsWithin effects }", False),
             (within, "{ ∥ EffectsWithin effects ∥₁ × low_enough 1 }", False),
             (("report::report", "requires"), "{ Keeps self.now }", False),

@@ -11,9 +11,6 @@ REACHED = re.compile(r"\{\s*Reached (?:[\w.]+|\([^×⊎→↔∗]*\))\s*\}")
 CALLABLE = re.compile(r"\{\s*(?:\([\w ]+ : [\w ]+\) → )*[A-Z]\w*\.(?:pre|IsAlwaysCallable) [^×⊎→↔∗≡≢≤<]*\}")
 # How a type whose values a caller can write says the same of the column that they make.
 SEEN = re.compile(r"\{\s*∥ Reached (?:[\w.]+|\([\w. ]+\)) ∥₁\s*\}")
-# What a sheet that is lent asks besides, at these two places alone: that its six effects are within the limit too, as they
-# are of every sheet that a call gave where it read one (`Keeps`). The reason is in DECISIONS.
-OF_LENT_SHEET = {("sheet::SheetRef.within", "{ ∥ EffectsWithin effects ∥₁ }"), ("sheet::Sheet::lend", "{ Keeps self.now }")}
 ASKING = "can_"  # how the ghost members of traits begin that say when a method may be called
 INVARIANT = "invariant"  # the ghost member of `Model` that is a fact of each value
 USED = re.compile(r"pub use (\w+)::(?:\{([\w\s,]*)\}|(\w+))")
@@ -166,12 +163,11 @@ def all_contracts(root):
 
 
 def asked_too_much(contract):
-    """The clauses of a contract in reach that ask more of a caller than that a column is reached, or a lent sheet one read."""
+    """The clauses of a contract in reach that ask more of a caller than that a column is reached."""
     asked = [text for kind, text in contract.clauses if kind == "requires"]
     more = [text for text in asked if not REACHED.fullmatch(text) and not CALLABLE.fullmatch(text)]
     facts = [text for kind, text in contract.clauses if kind == "ghost" and contract.asks]
-    more += [text for text in facts if not SEEN.fullmatch(text)]
-    return [text for text in more if (contract.function, " ".join(text.split())) not in OF_LENT_SHEET]
+    return more + [text for text in facts if not SEEN.fullmatch(text)]
 
 
 def complaints(contracts, strange):

@@ -9,6 +9,7 @@ ghost use Rattle.column.specs.Line.{lowest_floor};
 ghost use Rattle.column.specs.Column.{lines_of};
 ghost use Rattle.column.specs.Seen.{column_seen};
 ghost use Rattle.figure.specs.Lowest.{lowest_figure};
+ghost use Rattle.sheet.specs.Keeps.{EffectsWithin};
 ghost use Rattle.sheet.specs.Seen.{sheet_seen};
 ghost use Rattle.report.specs.Report.{effects_of, governing_lines, takedown_of};
 ghost use Rattle.report.specs.inner.Table.{line_of, table_lines};
@@ -39,7 +40,8 @@ fn put_floors(output: &mut Output, table: &Table)
 
 // The seven effects of a sheet in whole newtons: its six, and live, which is the figure at the lowest floor, rounded up.
 fn newtons_with(sheet: SheetRef<'_>, lowest: u64) -> Newtons
-    requires { lowest ≡ lowest_figure sheet.column.member (lines_of (column_seen sheet.column)) }
+    requires within { EffectsWithin sheet.effects }
+    requires lowest { lowest ≡ lowest_figure sheet.column.member (lines_of (column_seen sheet.column)) }
     ensures { result ≡ effects_of (sheet_seen sheet.entry) }
 {
     let [dead, roof, snow, rain, wind, quake] = sheet.effects;
@@ -70,6 +72,7 @@ fn put_governing(output: &mut Output, newtons: Newtons)
 
 // Puts all that is printed of a sheet.
 pub fn put_takedown(output: &mut Output, sheet: SheetRef<'_>)
+    requires { EffectsWithin sheet.effects }
     ensures { output.new ≡ put output.old (takedown_of (sheet_seen sheet.entry)) }
 {
     let mut table = [None; FLOORS];

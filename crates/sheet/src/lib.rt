@@ -12,7 +12,6 @@ use column::Column;
 use memchr::memchr_iter;
 use refusal::{Refusal, Refused};
 use sheet_lines::EFFECTS;
-use std::ops::Range;
 use steps::Draft;
 
 mod lent;
@@ -31,17 +30,24 @@ pub struct Sheet {
     pub effects: [i64; EFFECTS],
 }
 
+// A part of a text, from one place to before another. No `Range`, which is not Copy, as what reading gives is.
+#[derive(Clone, Copy)]
+pub struct Part {
+    pub start: usize,
+    pub end: usize,
+}
+
 // Where reading stops: the line K, which is the last line where the sheet is read; and where in the text the part stands
 // that is handed back.
-#[derive(Drop)]
+#[derive(Clone, Copy)]
 pub struct Stop {
     pub line: u64,
-    pub part: Range<usize>,
+    pub part: Part,
 }
 
 // What reading gives: the refusal, if the sheet is refused; and in both cases where reading stops, and the sheet as far as
 // it was read.
-#[derive(Drop)]
+#[derive(Clone, Copy)]
 pub struct ReadSheet {
     pub refusal: Option<Refusal>,
     pub stop: Stop,
@@ -50,12 +56,15 @@ pub struct ReadSheet {
 
 // The refusal of a line, with the part that is handed back.
 #[tactic(auto, unfolding(crate::specs::inner::Stopped::reading_of))]
-fn refused(refusal: Refusal, line: u64, part: Range<usize>) -> Result<Stop, Refused<Stop>>
-    ensures { (draft : Draft) → reading_of result draft ≡ reading (number_of refusal) line part.start part.end draft }
+fn refused(refusal: Refusal, line: u64, start: usize, end: usize) -> Result<Stop, Refused<Stop>>
+    ensures { (draft : Draft) → reading_of result draft ≡ reading (number_of refusal) line start end draft }
 {
     Err(Refused {
         refusal,
-        back: Stop { line, part },
+        back: Stop {
+            line,
+            part: Part { start, end },
+        },
     })
 }
 
@@ -66,28 +75,29 @@ fn read_in(draft: &mut Draft, text: &[u8]) -> Result<Stop, Refused<Stop>>
     ensures { reading_of result draft.new ≡ read_sheet text.now }
 {
     if text.len() > LONGEST {
-        return refused(Refusal::SheetTooLong, 0, 0..0);
+        return refused(Refusal::SheetTooLong, 0, 0, 0);
     }
     let mut at = 0;
     let mut line: u64 = 0;
     for end in memchr_iter(b'\n', text) {
         if let Err(refusal) = draft.take_line(&text[at..end]) {
-            return refused(refusal, line + 1, at..end);
+            return refused(refusal, line + 1, at, end);
         }
         at = end + 1;
         line += 1;
     }
     if at < text.len() {
-        return refused(Refusal::SheetMalformed, line + 1, at..text.len());
+        return refused(Refusal::SheetMalformed, line + 1, at, text.len());
     }
     if draft.is_complete() {
-        return Ok(Stop { line, part: at..at });
+        let part = Part { start: at, end: at };
+        return Ok(Stop { line, part });
     }
-    refused(Refusal::SheetMalformed, line + 1, at..at)
+    refused(Refusal::SheetMalformed, line + 1, at, at)
 }
 
-// Reads a sheet line by line, each its form and then its values. That it keeps the limits is said once, of the answer: a
-// sheet that is lent, and C's answer, take it from here.
+// Reads a sheet line by line, each its form and then its values. That it keeps the limits is said once, of the answer: the
+// report, and C's answer, take it from here.
 pub fn read(text: &[u8]) -> ReadSheet
     ensures read { reading_told result ≡ read_sheet text.now }
     ensures keeps { result.refusal ≡ None → Keeps result.sheet }
@@ -111,5 +121,5 @@ pub fn offending(text: &[u8]) -> &[u8]
     ensures place { result.ref_ptr ≡ offending_at text.entry.ref_ptr text.now }
 {
     let part = read(text).stop.part;
-    &text[part]
+    &text[part.start..part.end]
 }

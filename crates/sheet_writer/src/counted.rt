@@ -1,5 +1,6 @@
 // How many bytes the text of a sheet has, for a buffer that may be too short.
 ghost use Rattle.std.specs.Prelude.{◌≡◌, length};
+ghost use Rattle.sheet.specs.Keeps.{EffectsWithin};
 ghost use Rattle.sheet.specs.Seen.{sheet_seen};
 ghost use Rattle.sheet_text.specs.Written.{written};
 ghost use Rattle.sheet_writer.specs.inner.Counted.{counted};
@@ -25,6 +26,7 @@ impl Sink for Counter {
 
 // The bytes of a sheet.
 pub fn sheet_length(sheet: SheetRef<'_>) -> usize
+    requires { EffectsWithin sheet.effects }
     ensures { result ≡ length (written (sheet_seen sheet.entry)) }
 {
     let mut counter = Counter { bytes: 0 };

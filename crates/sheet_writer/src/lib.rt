@@ -6,6 +6,7 @@ ghost use Rattle.io.specs.Counts.{IsPrefixLen};
 ghost use Rattle.text.specs.Put.{fronted};
 ghost use Rattle.refusal.specs.Said.{gives, told};
 ghost use Rattle.column.specs.Seen.{column_seen};
+ghost use Rattle.sheet.specs.Keeps.{EffectsWithin};
 ghost use Rattle.sheet.specs.Seen.{sheet_seen};
 ghost use Rattle.sheet_text.specs.Written.{written};
 ghost use Rattle.sheet_writer.specs.Saving.{six_checked, if_whole, if_room, saving, saved_text, sized};
@@ -59,6 +60,7 @@ fn whole_effects(effects: SheetDoubles) -> Result<[i64; EFFECTS], Refused<Option
 // Whether a buffer of so many bytes has room for a sheet. One that suffices for every sheet is not held
 // against this one.
 fn fits(sheet: SheetRef<'_>, room: usize) -> bool
+    requires { EffectsWithin sheet.effects }
     ensures { result ≡ leb (length (written (sheet_seen sheet.entry))) room }
 {
     let suffices = room >= ROOM;
@@ -68,6 +70,7 @@ fn fits(sheet: SheetRef<'_>, room: usize) -> bool
 // Writes a sheet; the buffer is as it was where it is too short.
 #[tactic(auto, using(text::proofs::Puts::put_same))]
 fn write_whole(sheet: SheetRef<'_>, out: &mut [u8]) -> Result<usize, Refused<Option<Placed>>>
+    requires { EffectsWithin sheet.effects }
     ensures answered { told result ≡ sized (if_room (length out.old) (written (sheet_seen sheet.entry))) }
     ensures put { out.new ≡ fronted (saved_text (if_room (length out.old) (written (sheet_seen sheet.entry)))) out.old }
     ensures prefix_len { IfOk result (λ n. IsPrefixLen n out.new) }

@@ -3,6 +3,7 @@ ghost use Rattle.std.specs.Prelude.{◌≡◌, map};
 ghost use Rattle.text.specs.Put.{put_all};
 ghost use Rattle.column.specs.Line.{unpacked};
 ghost use Rattle.sheet_lines.specs.Form.{effect_keys};
+ghost use Rattle.sheet.specs.Keeps.{EffectsWithin};
 ghost use Rattle.sheet.specs.Seen.{sheet_seen};
 ghost use Rattle.sheet_writer.specs.inner.Parts.{member_parts, line_parts, floors_parts, effect_parts, effects_parts, sheet_parts};
 
@@ -54,6 +55,7 @@ fn put_effect<S: Sink>(sink: &mut S, key: &[u8], newtons: i64)
 
 // Puts the six effects of a sheet.
 fn put_effects<S: Sink>(sink: &mut S, sheet: SheetRef<'_>)
+    requires { EffectsWithin sheet.effects }
     ensures { sink.new ≡ put_all S.with_text sink.old (effects_parts effect_keys sheet.entry.effects) }
 {
     let [dead, roof, snow, rain, wind, quake] = sheet.effects;
@@ -67,6 +69,7 @@ fn put_effects<S: Sink>(sink: &mut S, sheet: SheetRef<'_>)
 
 // Puts a sheet.
 pub fn put_sheet<S: Sink>(sink: &mut S, sheet: SheetRef<'_>)
+    requires { EffectsWithin sheet.effects }
     ensures { sink.new ≡ put_all S.with_text sink.old (sheet_parts (sheet_seen sheet.entry)) }
 {
     put_member(sink, sheet.column.member);

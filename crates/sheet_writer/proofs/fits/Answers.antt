@@ -9,7 +9,7 @@ use Rattle.sheet_writer.proofs.fits.Goals as goal
 pub returns-then-suffices : goal.returns-then-suffices
 returns-then-suffices c =
     let s = sheet_seen c.args.sheet in
-    let most = written_most s (seen_keeps c.args.sheet) in
+    let most = written_most s (seen_keeps c.args.sheet c.requires) in
     le-leb _ c.args.room c.if-suffices.true ∙ sym (le-leb (length (written s)) c.args.room (omega (arith, most)))
 
 pub returns-else-suffices : goal.returns-else-suffices

@@ -1,6 +1,5 @@
 -- `sheet_writer::write` meets its contract: the effects first, and then the room. Assumes nothing.
 use Rattle.std.proofs.Common.{◌≡◌, length}
-use Rattle.std.proofs.lemmas.Grind.{merely}
 use Rattle.std.proofs.lemmas.Result.{err_from_is_err_and}
 use Rattle.refusal.specs.Said.{gives, told}
 use Rattle.text.specs.Put.{fronted}
@@ -25,8 +24,8 @@ returns-in_err-effects-clause-put c =
 taken : (c : In_ok-effects) → six_checked c.args.effects ≡ gives c.in_ok-effects.effects
 taken c = six_taken_are _ c.in_ok-effects.ensures
 
-pub invariant_of-sheet : goal.invariant_of-sheet
-invariant_of-sheet c = record { within = merely (six_kept c.args.effects (taken (goal.at.invariant_of-sheet c).In_ok-effects)) }
+pub write_whole-requires : goal.write_whole-requires
+write_whole-requires c = six_kept c.args.effects (taken (goal.at.write_whole-requires c).In_ok-effects)
 
 pub returns-clause-answered : goal.returns-clause-answered
 returns-clause-answered c =

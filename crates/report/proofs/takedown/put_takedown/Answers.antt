@@ -9,7 +9,7 @@ use Rattle.report.proofs.Table.{table_lines_lem}
 use Rattle.report.proofs.takedown.put_takedown.Goals as goal
 
 pub put_governing-requires : goal.put_governing-requires
-put_governing-requires c = rw c.newtons_with.ensures (seven_within (sheet_seen c.args.sheet) (seen_keeps c.args.sheet))
+put_governing-requires c = rw c.newtons_with.ensures (seven_within (sheet_seen c.args.sheet) (seen_keeps c.args.sheet c.requires))
 
 pub returns : goal.returns
 unfolding takedown_of

@@ -12,5 +12,5 @@ use Rattle.sheet_writer.proofs.counted.sheet_length.Goals as goal
 pub returns : goal.returns
 returns c =
     let s = sheet_seen c.args.sheet in
-    let held : 0 + length (joined (sheet_parts s)) < 2 ^ 64 = omega (arith, written_most s (seen_keeps c.args.sheet), ap length (sheet_text s)) in
+    let held : 0 + length (joined (sheet_parts s)) < 2 ^ 64 = omega (arith, written_most s (seen_keeps c.args.sheet c.requires), ap length (sheet_text s)) in
     ap (λ (k : Counter). k.bytes) (c.put_sheet.ensures ∙ counted_all 0 (sheet_parts s) held) ∙ (zero-add _ ∙ ap length (sheet_text s))
