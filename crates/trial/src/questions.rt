@@ -65,7 +65,10 @@ fn question_of(word: &[u8], numbers: &[u64]) -> Option<Question> {
     }
 }
 
-// What a line asks; none where it is no question.
+// The most numbers of a question.
+const MOST: usize = 4;
+
+// What a line asks; none where it is no question. Numbers beyond those of a question are not kept.
 pub fn read(alloc: Global, line: &[u8]) -> Result<Option<Question>, AllocError> {
     let mut parts = line.split(|byte| *byte == b' ');
     let Some(word) = parts.next() else {
@@ -76,6 +79,9 @@ pub fn read(alloc: Global, line: &[u8]) -> Result<Option<Question>, AllocError> 
         let Some(number) = number_of(digits) else {
             return Ok(None);
         };
+        if numbers.len() == MOST {
+            return Ok(None);
+        }
         numbers.push(number)?;
     }
     Ok(question_of(word, numbers.as_slice()))

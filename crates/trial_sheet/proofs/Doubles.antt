@@ -6,10 +6,10 @@ use Rattle.std.proofs.Math.Dec.{T}
 use Rattle.newtons.proofs.Values.{in_float_lem}
 use Rattle.report.proofs.Live.{effect_kept}
 use Rattle.sheet.specs.declared.lent.SheetRef.{SheetRef}
+use Rattle.sheet.specs.Keeps.{EffectsWithin}
 use Rattle.sheet.proofs.Kept.{each_within}
-use Rattle.sheet.proofs.Seen.{within_anyhow}
 
-pub exact : (s : SheetRef) (k : ℕ) → T (in_float binary64 (to_z w64 (of_z w64 (get_or s.effects k (pos 0)))))
-exact s k =
-    let w = each_within (within_anyhow s.within) k in
+pub exact : (s : SheetRef) → EffectsWithin s.effects → (k : ℕ) → T (in_float binary64 (to_z w64 (of_z w64 (get_or s.effects k (pos 0)))))
+exact s e k =
+    let w = each_within e k in
     rw (effect_kept _ w) (in_float_lem _ (omega (arith, w)))

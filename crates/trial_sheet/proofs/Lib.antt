@@ -1,2 +1,3 @@
 -- Laws for the proofs here.
+mod Back
 mod Doubles

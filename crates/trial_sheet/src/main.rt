@@ -3,18 +3,27 @@
 // of its bytes. Its stored output is the second reckoning's.
 #![tactic(auto)]
 
-use sheet::SheetRef;
+ghost use Rattle.std.specs.Prelude.{◌≡◌};
+ghost use Rattle.sheet.specs.Keeps.{EffectsWithin};
+ghost use Rattle.sheet.specs.Seen.{sheet_seen};
+ghost use Rattle.sheet_text.specs.Written.{written};
+ghost use Rattle.refusal.specs.Said.{gives};
+ghost use Rattle.sheet_writer.specs.Saving.{six_checked};
+
+use sheet::{Part, SheetRef};
 use sheet_writer::SheetDoubles;
 use std::io;
 use std::io::{BufWriter, Read, Write};
-use std::ops::Range;
 
 // More than the stored sheets take.
 const ROOM: usize = 1048576;
 
 // The six effects of a sheet as they are handed to the writer. No From: it would stand in sheet_writer for this trial alone.
 #[tactic(auto, using(crate::proofs::Doubles::exact))]
-fn doubles_of(sheet: SheetRef<'_>) -> SheetDoubles {
+fn doubles_of(sheet: SheetRef<'_>) -> SheetDoubles
+    requires { EffectsWithin sheet.effects }
+    ensures { six_checked result ≡ gives sheet.entry.effects }
+{
     let [dead, roof, snow, rain, wind, quake] = sheet.effects;
     SheetDoubles {
         dead: dead as f64,
@@ -26,8 +35,11 @@ fn doubles_of(sheet: SheetRef<'_>) -> SheetDoubles {
     }
 }
 
-// Writes a sheet that was read, and gives its text; one that was read is never refused, and no byte would show it.
-fn put_back<'a>(sheet: SheetRef<'_>, back: &'a mut [u8; sheet_writer::ROOM]) -> &'a [u8] {
+// Writes a sheet that was read, and gives its text. None is refused, so the empty text stands for what cannot be.
+fn put_back<'a>(sheet: SheetRef<'_>, back: &'a mut [u8; sheet_writer::ROOM]) -> &'a [u8]
+    requires { EffectsWithin sheet.effects }
+    ensures { result.now ≡ written (sheet_seen sheet.entry) }
+{
     match sheet_writer::write(sheet.column, doubles_of(sheet), back) {
         Ok(length) => &back[..length],
         Err(_) => &[],
@@ -35,7 +47,9 @@ fn put_back<'a>(sheet: SheetRef<'_>, back: &'a mut [u8; sheet_writer::ROOM]) -> 
 }
 
 // Prints how many bytes a sheet that was read has when it is written back, and whether they are its text.
-fn write_back<W: Write>(out: &mut W, text: &[u8], sheet: SheetRef<'_>) -> io::Result<()> {
+fn write_back<W: Write>(out: &mut W, text: &[u8], sheet: SheetRef<'_>) -> io::Result<()>
+    requires { EffectsWithin sheet.effects }
+{
     let mut back = [0u8; sheet_writer::ROOM];
     let written = put_back(sheet, &mut back);
     let word = if text == written { "same" } else { "other" };
@@ -49,7 +63,7 @@ fn answer<W: Write>(out: &mut W, text: &[u8]) -> io::Result<()> {
     let size = report::put_printed(text, &mut printed);
     out.write_all(&printed[..size])?;
     let reading = sheet::read(text);
-    let Range { start, end } = reading.stop.part;
+    let Part { start, end } = reading.stop.part;
     write!(out, "start={start} end={end} part=")?;
     out.write_all(sheet::offending(text))?;
     writeln!(out)?;
@@ -59,10 +73,17 @@ fn answer<W: Write>(out: &mut W, text: &[u8]) -> io::Result<()> {
     }
 }
 
-// The number that a line `sheet` gives.
+// The number that a line `sheet` gives, behind its first six bytes; leading digits past a million are dropped, since no
+// text is so long. None where another byte than a digit stands there.
 fn size_from(line: &[u8]) -> Option<usize> {
-    let digits = line.strip_prefix(b"sheet ")?;
-    str::from_utf8(digits).ok()?.parse().ok()
+    let mut size: usize = 0;
+    for byte in line.iter().skip(6) {
+        if !byte.is_ascii_digit() {
+            return None;
+        }
+        size = size % 1_000_000 * 10 + (*byte - b'0') as usize;
+    }
+    Some(size)
 }
 
 // Answers for every sheet; a sheet that is cut short is not read, and one whose line says no number has no bytes.
