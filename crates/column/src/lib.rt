@@ -90,7 +90,9 @@ impl Member {
 }
 
 impl Column {
-    // The column of a member with this code, without lines; refused where there is no such code.
+    // The column of a member with this code, without lines; refused where there is no such code. Compiled into its callers, so
+    // that it is made where it is to stand: a call for C copied its 2 KB once more, and took a quarter longer.
+    #[inline(always)]
     #[tactic(auto, unfolding(crate::specs::Column::opened_as, crate::specs::Column::column_of))]
     pub fn open(code: u64) -> Result<Column, Refusal>
         ensures opened { opened_as (λ c. c) result ≡ opened_of (member_of code) }

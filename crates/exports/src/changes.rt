@@ -59,6 +59,8 @@ fn unopened() -> Column
 impl From<Result<Column, Refusal>> for BungeroOpened {
     ghost from_gives = { λ answer opened. outcome_of opened ≡ opened_as (λ c. c) answer };
 
+    // Compiled into the call, as opening is.
+    #[inline(always)]
     #[tactic(auto, unfolding(crate::specs::Changed::outcome_of, column::specs::Column::opened_as))]
     fn from(answer: Result<Column, Refusal>) -> BungeroOpened {
         match answer {
