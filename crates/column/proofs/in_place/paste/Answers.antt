@@ -51,16 +51,6 @@ loop-line-init c =
 pub enter_below-entered-requires : goal.enter_below-entered-requires
 enter_below-entered-requires c = record { reached = c.loop-line.invariant.reached; last = c.loop-line.invariant.last }
 
-pub returns-in-Err : goal.returns-in-Err
-unfolding number_or_0
-returns-in-Err c =
-    let l = c.loop-line.invariant in
-    let entered = c.enter_below-entered.ensures in
-    let now = stopped c.args.member c.loop-line.filled entered.entered entered.reached c.in-Err.is in
-    let told = pasted_end _ _ _ _ _ now.0 (number_positive c.in-Err.refusal) ∙ (rw c.in-Some.ensures.steps at l.pasted) in
-    let a = answered l.filled c.args.member c.enter_below-entered.new.held (Some c.in-Err.refusal) told now.1 in
-    record { pasted = a.0; reached = a.1 }
-
 pub loop-line-preserved : goal.loop-line-preserved
 loop-line-preserved c =
     let l = c.loop-line.invariant in
@@ -76,6 +66,16 @@ loop-line-preserved c =
       last = sym (ap (λ (o : Outcome). last_floor (lines_of o.column)) j ∙ entered_last _ _ zero);
       pasted = rw more (pasted_next _ _ _ _ _ j refl ∙ (rw c.in-Some.ensures.steps at l.pasted));
     }
+
+pub returns-in-Err : goal.returns-in-Err
+unfolding number_or_0
+returns-in-Err c =
+    let l = c.loop-line.invariant in
+    let entered = c.enter_below-entered.ensures in
+    let now = stopped c.args.member c.loop-line.filled entered.entered entered.reached c.in-Err.is in
+    let told = pasted_end _ _ _ _ _ now.0 (number_positive c.in-Err.refusal) ∙ (rw c.in-Some.ensures.steps at l.pasted) in
+    let a = answered l.filled c.args.member c.enter_below-entered.new.held (Some c.in-Err.refusal) told now.1 in
+    record { pasted = a.0; reached = a.1 }
 
 pub returns : goal.returns
 unfolding number_or_0

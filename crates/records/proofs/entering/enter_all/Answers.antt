@@ -6,14 +6,14 @@ use Rattle.records.specs.inner.Entering.{entering_told}
 use Rattle.records.proofs.InTurn.{entered_next, entered_stop}
 use Rattle.records.proofs.entering.enter_all.Goals as goal
 
-pub returns-in-Err : goal.returns-in-Err
-unfolding entering_told number_told
-returns-in-Err c =
-    let l = c.loop-before in
-    (entered_stop l.column c.enter.new.self c.args.lines.now l.before c.loop-before-test.true _ c.in-Err.ensures.entered (number_positive c.in-Err.refusal) ∙ l.invariant.1, c.enter.ensures.reached)
-
 pub loop-before-preserved : goal.loop-before-preserved
 unfolding number_told
 loop-before-preserved c =
     let l = c.loop-before in
     (c.enter.ensures.reached, entered_next l.column c.enter.new.self c.args.lines.now l.before c.loop-before-test.true _ c.in_default.ensures.entered ∙ l.invariant.1)
+
+pub returns-in-Err : goal.returns-in-Err
+unfolding entering_told number_told
+returns-in-Err c =
+    let l = c.loop-before in
+    (entered_stop l.column c.enter.new.self c.args.lines.now l.before c.loop-before-test.true _ c.in-Err.ensures.entered (number_positive c.in-Err.refusal) ∙ l.invariant.1, c.enter.ensures.reached)
