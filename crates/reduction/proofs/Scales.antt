@@ -55,35 +55,28 @@ module _ (x : InfluenceArea) where
       let less : root_scale x < 1572864 = sq_lt⁻¹ (omega arith) in
       omega arith
 
-  -- Newton's step from any number does not end below the scale
-  pub scale_step : (a : ℕ) → 1 ≤ a → 1 ≤ x.0 → root_scale x ≤ (a + sq (914 * 2 ^ 19) / (25 * x.0 * a)) / 2
-  scale_step a h some =
-      let q = sq (914 * 2 ^ 19) / (25 * x.0 * a) in
+  -- Newton's step from any number does not end below one whose square fits
+  step_from : (u s a : ℕ) → 1 ≤ a → 1 ≤ x.0 → 25 * x.0 * sq u ≤ sq s → u ≤ (a + sq s / (25 * x.0 * a)) / 2
+  step_from u s a h some fits =
+      let q = sq s / (25 * x.0 * a) in
       let pos : 0 < 25 * x.0 * a = omega (arith, mul-le-mul some h, mul_assoc 25 x.0 a) in
-      let above : sq (914 * 2 ^ 19) < 25 * x.0 * (a * (q + 1)) =
-      rw (← mul_assoc (25 * x.0) a (q + 1)) (lt-mul-div-succ (sq (914 * 2 ^ 19)) pos) in
-      elim (dec_le (root_scale x) ((a + q) / 2)) [
+      let above : sq s < 25 * x.0 * (a * (q + 1)) = rw (← mul_assoc (25 * x.0) a (q + 1)) (lt-mul-div-succ (sq s) pos) in
+      elim (dec_le u ((a + q) / 2)) [
         | yes p ↦ p
         | no n ↦
-            let under : a * (q + 1) ≤ sq (root_scale x) = under_square a (q + 1) (root_scale x) (omega (arith, lt_of_not-le n)) in
-            absurd (not-le_of_lt above (le_trans (mul-le-mul_left (25 * x.0) under) (scale_fits (le_refl _))))
+            let under : a * (q + 1) ≤ sq u = under_square a (q + 1) u (omega (arith, lt_of_not-le n)) in
+            absurd (not-le_of_lt above (le_trans (mul-le-mul_left (25 * x.0) under) fits))
       ]
 
-  -- and so in units of 2⁻²⁰
+  -- so not below the scale, and not below twice the scale in units of 2⁻²⁰
+  pub scale_step : (a : ℕ) → 1 ≤ a → 1 ≤ x.0 → root_scale x ≤ (a + sq (914 * 2 ^ 19) / (25 * x.0 * a)) / 2
+  scale_step a h some = step_from (root_scale x) (914 * 2 ^ 19) a h some (scale_fits (le_refl _))
+
   pub step_above : (a : ℕ) → 1 ≤ a → 1 ≤ x.0 → 2 * root_scale x ≤ (a + sq (914 * 2 ^ 20) / (25 * x.0 * a)) / 2
   step_above a h some =
-      let q = sq (914 * 2 ^ 20) / (25 * x.0 * a) in
       let s = root_scale x in
-      let pos : 0 < 25 * x.0 * a = omega (arith, mul-le-mul some h, mul_assoc 25 x.0 a) in
-      let above : sq (914 * 2 ^ 20) < 25 * x.0 * (a * (q + 1)) =
-      rw (← mul_assoc (25 * x.0) a (q + 1)) (lt-mul-div-succ (sq (914 * 2 ^ 20)) pos) in
-      elim (dec_le (2 * s) ((a + q) / 2)) [
-        | yes p ↦ p
-        | no n ↦
-            let under : a * (q + 1) ≤ sq (2 * s) = under_square a (q + 1) (2 * s) (omega (arith, lt_of_not-le n)) in
-            let four : 25 * x.0 * sq (2 * s) ≡ 4 * (25 * x.0 * sq s) = omega (arith, sq_mul 2 s, ap (λ (n : ℕ). 25 * x.0 * n) (sq_mul 2 s)) in
-            absurd (omega (arith, above, mul-le-mul_left (25 * x.0) under, four, scale_fits (le_refl s)))
-      ]
+      let four : 25 * x.0 * sq (2 * s) ≡ 4 * (25 * x.0 * sq s) = omega (arith, sq_mul 2 s, ap (λ (n : ℕ). 25 * x.0 * n) (sq_mul 2 s)) in
+      step_from (2 * s) (914 * 2 ^ 20) a h some (omega (arith, four, scale_fits (le_refl s)))
 
   -- the scale is 1 at least
   pub scale_some : 1 ≤ x.0 → x.0 ≤ 92821 → 1 ≤ root_scale x

@@ -1,5 +1,5 @@
 -- `column::in_place::paste` meets its contract: pasting what is left gives what pasting all from the start gives. Assumes nothing.
-use Rattle.std.proofs.Common.{◌≡◌, refl, sym, ◌∙◌, ap, List, ℕ, ◌+◌, ◌-◌, ◌≤◌, arith, Option, Some, None, Result, Ok, Err}
+use Rattle.std.proofs.Common.{rules, ◌≡◌, refl, sym, ◌∙◌, ap, List, ℕ, ◌+◌, ◌-◌, ◌≤◌, arith, Option, Some, None, Result, Ok, Err}
 use Rattle.refusal.specs.declared.Refusal.{Refusal}
 use Rattle.refusal.specs.Refusal.{number_of}
 use Rattle.refusal.specs.Said.{number_told}
@@ -55,7 +55,8 @@ pub loop-line-preserved : goal.loop-line-preserved
 loop-line-preserved c =
     let l = c.loop-line.invariant in
     let entered = c.enter_below-entered.ensures in
-    let now = kept c.args.member c.loop-line.filled entered.entered entered.reached c.in-Ok.is in
+    let is : c.enter_below-entered.result ≡ Ok c.in-Ok.next = search rules in
+    let now = kept c.args.member c.loop-line.filled entered.entered entered.reached is in
     let j = now.0 in
     let zero = sym (ap (λ (o : Outcome). o.number) j) in
     let one : c.in-Ok.next ≡ c.loop-line.filled + 1 = ap (λ (o : Outcome). o.column.count) j ∙ entered_count _ l.reached zero in
@@ -72,7 +73,8 @@ unfolding number_or_0
 returns-in-Err c =
     let l = c.loop-line.invariant in
     let entered = c.enter_below-entered.ensures in
-    let now = stopped c.args.member c.loop-line.filled entered.entered entered.reached c.in-Err.is in
+    let is : c.enter_below-entered.result ≡ Err c.in-Err.refusal = search rules in
+    let now = stopped c.args.member c.loop-line.filled entered.entered entered.reached is in
     let told = pasted_end _ _ _ _ _ now.0 (number_positive c.in-Err.refusal) ∙ (rw c.in-Some.ensures.steps at l.pasted) in
     let a = answered l.filled c.args.member c.enter_below-entered.new.held (Some c.in-Err.refusal) told now.1 in
     record { pasted = a.0; reached = a.1 }

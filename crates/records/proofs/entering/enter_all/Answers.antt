@@ -1,5 +1,5 @@
 -- `records::entering::enter_all` meets its contract: each line is entered while nothing is refused. Assumes nothing.
-use Rattle.std.proofs.Common.{◌∙◌}
+use Rattle.std.proofs.Common.{rules, ◌≡◌, ◌∙◌, Ok, Err}
 use Rattle.refusal.specs.Said.{number_told}
 use Rattle.refusal.proofs.Said.{number_positive}
 use Rattle.records.specs.inner.Entering.{entering_told}
@@ -10,10 +10,12 @@ pub loop-before-preserved : goal.loop-before-preserved
 unfolding number_told
 loop-before-preserved c =
     let l = c.loop-before in
-    (c.enter.ensures.reached, entered_next l.column c.enter.new.self c.args.lines.now l.before c.loop-before-test.true _ c.in_default.ensures.entered ∙ l.invariant.1)
+    let is : c.enter.result ≡ Ok c.in_default.field-0 = search rules in
+    (c.enter.ensures.reached, entered_next l.column c.enter.new.self c.args.lines.now l.before c.loop-before-test.true _ (rw is at c.enter.ensures.entered) ∙ l.invariant.1)
 
 pub returns-in-Err : goal.returns-in-Err
 unfolding entering_told number_told
 returns-in-Err c =
     let l = c.loop-before in
-    (entered_stop l.column c.enter.new.self c.args.lines.now l.before c.loop-before-test.true _ c.in-Err.ensures.entered (number_positive c.in-Err.refusal) ∙ l.invariant.1, c.enter.ensures.reached)
+    let is : c.enter.result ≡ Err c.in-Err.refusal = search rules in
+    (entered_stop l.column c.enter.new.self c.args.lines.now l.before c.loop-before-test.true _ (rw is at c.enter.ensures.entered) (number_positive c.in-Err.refusal) ∙ l.invariant.1, c.enter.ensures.reached)

@@ -1,5 +1,5 @@
 -- `text::scan::line_end` meets its contract: what is found in the rest of the text is found from the place on. Assumes nothing.
-use Rattle.std.proofs.Common.{zero-le, ◌≡◌, sym, ◌∙◌, ap, List, ℕ, ◌+◌, ◌-◌, add-zero, arith, length, take, drop, drop_of_length-le, length-drop, take_all}
+use Rattle.std.proofs.Common.{rules, zero-le, ◌≡◌, sym, ◌∙◌, ap, List, ℕ, ◌+◌, ◌-◌, add-zero, arith, length, take, drop, drop_of_length-le, length-drop, take_all}
 use Rattle.std.specs.Prelude.{Option, Some, None, unwrap_or}
 use Rattle.memchr.specs.Find.{IsFirstByte, is_byte}
 use Rattle.text.specs.Lines.{newline, index_of, end_from}
@@ -20,5 +20,7 @@ unfolding end_from
 returns c =
     let text = c.args.text.now in
     let from = c.args.from in
-    let rest : take (length text - from) (drop from text) ≡ drop from text = take_all (length text - from) (drop from text) (omega (arith, length-drop from text)) in
-    ap (λ (n : ℕ). from + n) (c.unwrap_or.ensures ∙ (found _ c.memchr.result c.memchr.ensures ∙ ap (index_of newline) rest))
+    let part = take (length text - from) (drop from text) in
+    let rest : part ≡ drop from text = take_all (length text - from) (drop from text) (omega (arith, length-drop from text)) in
+    let told : c.unwrap_or.result ≡ unwrap_or c.memchr.result (length part) = search rules in
+    ap (λ (n : ℕ). from + n) (told ∙ (found part c.memchr.result c.memchr.ensures ∙ ap (index_of newline) rest))

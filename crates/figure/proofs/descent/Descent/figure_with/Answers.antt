@@ -1,5 +1,5 @@
 -- `figure::descent::Descent::figure_with` meets its contract: where the shares are alike, the figure above is the sum over its lines here too. Assumes nothing.
-use Rattle.std.proofs.Common.{◌≡◌, sym, ◌∙◌, ap, arith, true, eqb, ℕ, ◌+◌, ◌≤◌, ◌++◌, List, sum_by}
+use Rattle.std.proofs.Common.{rules, ◌≡◌, sym, ◌∙◌, ap, arith, true, eqb, ℕ, ◌+◌, ◌≤◌, ◌++◌, List, sum_by}
 use Rattle.std.specs.Prelude.{IsSome}
 use Rattle.std.specs.Option.{option_eq}
 use Rattle.std.proofs.lemmas.List.Sums.{sum_by-append}
@@ -23,7 +23,8 @@ together s t front new carried two more some e is above below =
 is_sum : (c : After-figure) → c.args.self.figure + c.figure.result ≡ figures c.args.here c.args.carried.numbers.now
 is_sum c =
     let d = c.args.self in
-    together d.shares c.args.here d.carried.numbers.now c.args.new.numbers.now c.args.carried.numbers.now c.if-before-ge2.true c.requires.shares (sym c.if-is_some.ensures) (sym c.if-eq.ensures)
+    let alike : option_eq eqb d.shares.clamped c.args.here.clamped ≡ true = search rules in
+    together d.shares c.args.here d.carried.numbers.now c.args.new.numbers.now c.args.carried.numbers.now c.if-before-ge2.true c.requires.shares (sym c.if-is_some.ensures) alike
     c.requires.lines d.figure_is c.figure.ensures
 
 pub overflow_add-result : goal.overflow_add-result
